@@ -1,0 +1,6 @@
+//! The tree of a script.
+#![tactic(auto)]
+
+mod script;
+
+pub use script::{Form, Node, NodeId, Operand, Operator, ParseError, Script};
