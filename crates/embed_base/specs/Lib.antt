@@ -1,0 +1,5 @@
+pub mod Counts
+pub mod Answers
+pub mod Contents
+pub mod Names
+pub mod Memory
