@@ -19,3 +19,9 @@ pub record MemorySink : Type 0 where
   pub calls : ℕ
   pub faults : ℕ
   pub bytes : List ℕ
+
+-- what is told of the files of a system
+pub record FileCounts : Type 0 where
+  pub faults : ℕ
+  pub taken : ℕ
+  pub failed : Option (List ℕ)
