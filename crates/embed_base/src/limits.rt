@@ -46,4 +46,4 @@ pub const MOST_BLOCKS: u32 = 256;
 pub const MOST_LOCALS: u32 = 50_000;
 
 /// The greatest whole number that a Number may be; its negative is the least one.
-pub const GREATEST_NUMBER: i64 = 9_007_199_254_740_991;
+pub const GREATEST_NUMBER: u64 = 9_007_199_254_740_991;

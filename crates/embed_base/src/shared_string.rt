@@ -1,22 +1,21 @@
-ghost use Rattle.std.specs.Prelude.{◌≡◌, IfOk, string_bytes};
+ghost use Rattle.std.specs.Prelude.{◌≡◌, ◌++◌, IfOk, string_bytes};
 
 use std::alloc::{AllocError, Global};
 use std::marker::Model;
-use std::rc::RcStr;
+use std::rc::Rc;
 
 /// Text whose bytes are shared by its clones, and that contracts see as the list of its bytes.
 #[derive(Debug, Drop)]
 pub struct SharedString {
-    text: RcStr,
+    text: Rc<String>,
 }
 
 impl Model for SharedString {
-    ghost use Rattle.std.specs.Prelude.{ℕ, List};
-    ghost use Rattle.std.specs.Rc.{rc_str_bytes};
+    ghost use Rattle.std.specs.Prelude.{ℕ, List, string_bytes};
 
     ghost Value = { List ℕ };
 
-    ghost view = { λ s. rc_str_bytes s.text };
+    ghost view = { λ s. string_bytes s.text.value };
 }
 
 impl SharedString {
@@ -24,15 +23,15 @@ impl SharedString {
     pub fn from_str(alloc: Global, text: &str) -> Result<SharedString, AllocError>
         ensures { IfOk result (λ s. s ≡ text.now) }
     {
-        let text = RcStr::from_str(alloc, text)?;
-        Ok(SharedString { text })
+        let text = String::from_str(alloc, text)?;
+        SharedString::from_string(alloc, text)
     }
 
-    /// The text of a `String`, which isn't copied.
-    pub fn from_string(text: String) -> Result<SharedString, AllocError>
+    /// The text of a `String`, whose bytes aren't copied.
+    pub fn from_string(alloc: Global, text: String) -> Result<SharedString, AllocError>
         ensures { IfOk result (λ s. s ≡ string_bytes text) }
     {
-        let text = RcStr::from_string(text)?;
+        let text = Rc::new(alloc, text)?;
         Ok(SharedString { text })
     }
 
@@ -41,6 +40,19 @@ impl SharedString {
         ensures { result.now ≡ self.now }
     {
         self.text.as_str()
+    }
+
+    /// This text with `more` after it. The bytes that are there are copied only where a clone shares them.
+    pub fn append(self, alloc: Global, more: &str) -> Result<SharedString, AllocError>
+        ensures { IfOk result (λ s. s ≡ self ++ more.now) }
+    {
+        let SharedString { text } = self;
+        let mut text = match Rc::try_unwrap(text) {
+            Ok(alone) => alone,
+            Err(shared) => String::from_str(alloc, shared.as_str())?,
+        };
+        text.push_str(more)?;
+        SharedString::from_string(alloc, text)
     }
 }
 

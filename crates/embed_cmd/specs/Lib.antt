@@ -1,0 +1,5 @@
+pub mod Values
+pub mod Operators
+pub mod Evaluation
+pub mod Outcome
+pub mod Stops

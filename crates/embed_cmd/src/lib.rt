@@ -1,0 +1,6 @@
+//! The command: its words, its run, and the top call.
+#![tactic(auto)]
+
+mod operators;
+mod stop;
+mod value;

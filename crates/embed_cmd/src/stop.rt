@@ -1,0 +1,32 @@
+ghost use Rattle.std.specs.Prelude.{◌≡◌};
+ghost use Rattle.embed_cmd.specs.Evaluation.{refused_at};
+
+use embed_base::{Outside, OutsideKind, Place};
+use std::alloc::AllocError;
+
+/// Why a run doesn't go on.
+#[derive(Debug, Drop)]
+pub(crate) enum Stop {
+    Outside(Outside),
+    NoMemory,
+}
+
+/// A named refusal at a byte of the script.
+pub(crate) fn refuse(place: u32, kind: OutsideKind) -> Stop
+    ensures { result ≡ Stop.Outside (refused_at place kind) }
+{
+    Stop::Outside(Outside {
+        kind,
+        place: Place::Script(u64::from(place)),
+    })
+}
+
+impl From<AllocError> for Stop {
+    ghost use Rattle.embed_cmd.specs.declared.stop.Stop.TheVariants.{NoMemory};
+
+    ghost from_gives = { λ _ e. e ≡ NoMemory };
+
+    fn from(_: AllocError) -> Self {
+        Stop::NoMemory
+    }
+}
