@@ -3,3 +3,4 @@ pub mod Operators
 pub mod Evaluation
 pub mod Outcome
 pub mod Stops
+pub mod Tasks
