@@ -1,5 +1,6 @@
 -- What the tasks of a node give: an operand its value, and a chain what its operands and operators give.
-use Rattle.std.proofs.Common.{◌≡◌, ℕ, zero, suc, ◌+◌, ◌<◌, List, [], ◌∷◌, ◌++◌, Option, Some, None, Result, Ok, Err, IsSomeAnd, slice_get, refl, sym, ap, ◌∙◌, subst, append_assoc, pos}
+use Rattle.std.proofs.Common.{◌≡◌, ℕ, zero, suc, ◌+◌, ◌<◌, List, [], ◌∷◌, ◌++◌, Option, Some, None, Result, Ok, Err, IsSomeAnd, slice_get, ◌-◌, ◌≤◌, length, reverse, take, get_or, arith, refl, sym, ap, ◌∙◌, subst, append_assoc, pos}
+use Rattle.std.proofs.lemmas.List.{take_more, reverse-append}
 use Rattle.embed_base.specs.declared.outside.OutsideKind.TheVariants as kinds
 use Rattle.embed_base.specs.declared.outside.Outside.{Outside}
 use Rattle.host_parser.specs.declared.script.NodeId.{NodeId}
@@ -186,3 +187,16 @@ mutual
   reads_factor b (text s k) nodes id node at h = let found = at_node nodes id k (IsText s) node at h in text_reads b s k nodes id node.form node.place found.0 found.1
   reads_factor b (name w k) nodes id node at h = let found = at_node nodes id k (IsName w) node at h in name_reads b w k nodes id node.form node.place found.0 found.1
   reads_factor b (parens o e c) nodes id node at h = reads_sum b e nodes id node at h
+
+-- one operand more on top of the tasks
+pub pushed : (left : List Operand) (n i : ℕ) (d : Operand) (next : NodeId) (old mid new : List Task) → n ≡ i + 1 → i < length left
+    → mid ≡ old ++ tasks.Operate (get_or left i d).operator (get_or left i d).place ∷ [] → new ≡ mid ++ tasks.Evaluate next ∷ []
+    → chain_tasks (take i left) (get_or left i d).node ++ reverse new ≡ chain_tasks (take n left) next ++ reverse old
+pushed left n i d next old mid new at within first second =
+    let x : Operand = get_or left i d in
+    let taken : take n left ≡ take i left ++ x ∷ [] = ap (λ j. take j left) at ∙ take_more left i d within in
+    let turned : reverse new ≡ tasks.Evaluate next ∷ tasks.Operate x.operator x.place ∷ reverse old =
+        ap reverse second ∙ reverse-append mid (tasks.Evaluate next ∷ []) ∙ ap (λ ts. tasks.Evaluate next ∷ ts) (ap reverse first ∙ reverse-append old (tasks.Operate x.operator x.place ∷ [])) in
+    ap (λ ts. chain_tasks (take i left) x.node ++ ts) turned
+    ∙ sym (append_assoc (chain_tasks (take i left) x.node) (tasks.Evaluate next ∷ tasks.Operate x.operator x.place ∷ []) (reverse old))
+    ∙ ap (λ ts. ts ++ reverse old) (sym (ap (λ xs. chain_tasks xs next) taken ∙ chain_more (take i left) x next))

@@ -18,6 +18,8 @@ use Rattle.host_parser.specs.declared.script.Node.{Node}
 use Rattle.host_parser.specs.Grammar.{Sum}
 use Rattle.host_parser.specs.Shows.{SumShows}
 use Rattle.embed_cmd.specs.declared.value.Value.{Value}
+use Rattle.embed_cmd.specs.declared.stop.Stop.{Stop}
+use Rattle.embed_cmd.specs.declared.stop.Stop.TheVariants as stops
 use Rattle.embed_cmd.specs.declared.evaluate.Task.{Task}
 use Rattle.embed_cmd.specs.declared.evaluate.Task.TheVariants as tasks
 use Rattle.embed_cmd.specs.Evaluation.{Bindings, Answer, sum_value, and_then, operated, refused_at}
@@ -113,3 +115,9 @@ pub record Continues (nodes : List Node) (b : Bindings) (answer : Answer) (xs : 
   pub shown : TodosShow nodes todos xs
   pub fits : Fits todos (length vs)
   pub gives : answer ≡ perform b todos vs
+
+-- a step that went on, with what is left; or stopped with the answer's refusal; or for want of memory
+abbrev pub Steps : {A : Type 0} → Result A Stop → List Node → Bindings → Answer → Vec Task Global → Vec Value Global → Type 0
+Steps (Ok _) nodes b answer todo done = Continues nodes b answer (top_first todo) (top_first done)
+Steps (Err (stops.Outside o)) nodes b answer todo done = answer ≡ Err o
+Steps (Err stops.NoMemory) nodes b answer todo done = Unit {0}
