@@ -83,7 +83,7 @@ chain_smaller nodes (suc depth) node left last at is h l =
     let a = chain_size nodes depth left last h l in
     subst P (sym at) (subst Q (sym is) (omega (arith, a)))
 
-size_least : (nodes : List Node) (depth id : ℕ) → 1 ≤ size_of nodes depth id
+pub size_least : (nodes : List Node) (depth id : ℕ) → 1 ≤ size_of nodes depth id
 unfolding size_of
 size_least nodes zero id = omega arith
 size_least nodes (suc depth) id = node_least (size_of nodes depth) (slice_get nodes id)

@@ -1,11 +1,12 @@
-ghost use Rattle.std.specs.Prelude.{◌≡◌, ℕ, suc, ◌+◌, ◌<◌, List, [], ◌++◌, length, slice_get, Some, Ok, OnOk, pos};
+ghost use Rattle.std.specs.Prelude.{◌≡◌, ℕ, suc, ◌+◌, ◌<◌, ◌≤◌, List, [], ◌∷◌, ◌++◌, length, slice_get, Some, Ok, OnOk, pos};
+ghost use Rattle.host_parser.specs.declared.script.Node.{Node};
 ghost use Rattle.host_parser.specs.Grammar.{Sum};
 ghost use Rattle.host_parser.specs.Shows.{SumShows};
 ghost use Rattle.embed_cmd.specs.declared.value.Value.TheVariants as values;
 ghost use Rattle.embed_cmd.specs.Operators.{number_of};
-ghost use Rattle.embed_cmd.specs.Evaluation.{Bindings, sum_value, at_place, named};
+ghost use Rattle.embed_cmd.specs.Evaluation.{Bindings, Answer, and_then, sum_value, at_place, named};
 ghost use Rattle.embed_cmd.specs.Stops.{Meets};
-ghost use Rattle.embed_cmd.specs.Tasks.{Todo, evaluates, applies, IsBoundAs, perform, Fits, TodosShow, top_first, chain_tasks, tasks_size, size_of, Steps};
+ghost use Rattle.embed_cmd.specs.Tasks.{Todo, evaluates, applies, IsBoundAs, perform, Fits, TodosShow, top_first, chain_tasks, tasks_size, task_size, size_of, Steps};
 
 use crate::operators::{number, operate};
 use crate::stop::{Stop, refuse};
@@ -69,4 +70,102 @@ fn push_chain(
     }
     tasks.push(Task::Evaluate(next))?;
     Ok(())
+}
+
+/// An evaluation at work: the tasks that are left and the values that operators wait for, each with the next one last.
+#[derive(Drop)]
+struct Evaluation {
+    tasks: Vec<Task>,
+    values: Vec<Value>,
+}
+
+impl Evaluation {
+    /// Puts a value on the values, or hands on why there is none.
+    fn give(&mut self, value: Result<Value, Stop>) -> Result<(), Stop>
+        ensures steps { (nodes : List Node) (b : Bindings) (answer : Answer) (ts : List Todo) → Meets value answer → TodosShow nodes ts (top_first self.old.tasks) → Fits ts (suc (length self.old.values.items)) → Steps result nodes b (and_then answer (λ v. perform b ts (v ∷ top_first self.old.values))) self.new.tasks self.new.values }
+        ensures kept { self.new.tasks ≡ self.old.tasks }
+    {
+        match value {
+            Ok(value) => {
+                self.values.push(value)?;
+                Ok(())
+            }
+            Err(stop) => Err(stop),
+        }
+    }
+
+    /// Takes the task of an expression: an operand gives its value, and a chain its operands' tasks.
+    fn expand(
+        &mut self,
+        alloc: Global,
+        nodes: &[Node],
+        names: &Names,
+        id: NodeId,
+    ) -> Result<(), Stop>
+        requires { (e : Sum) × SumShows e nodes.now id.0 }
+        ensures steps { (b : Bindings) → IsBoundAs b names.now → (e : Sum) → SumShows e nodes.now id.0 → (ts : List Todo) → TodosShow nodes.now ts (top_first self.old.tasks) → Fits ts (suc (length self.old.values.items)) → Steps result nodes.now b (perform b (evaluates e ∷ ts) (top_first self.old.values)) self.new.tasks self.new.values }
+        ensures smaller { OnOk result (tasks_size nodes.now (top_first self.new.tasks) < size_of nodes.now id.0 id.0 + tasks_size nodes.now (top_first self.old.tasks)) }
+    {
+        let node = &nodes[id.0];
+        match &node.form {
+            Form::Chain(left, last) => {
+                push_chain(&mut self.tasks, left.as_slice(), *last)?;
+                Ok(())
+            }
+            Form::Number(value) => self.give(literal(node.place, *value)),
+            Form::Text(text) => self.give(text_value(alloc, text)),
+            Form::Name(name) => self.give(named_value(names, name, node.place)),
+            Form::Let { .. } | Form::Print { .. } => unreachable!(),
+        }
+    }
+
+    /// Takes the task of an operator: the last two values become one.
+    fn apply(&mut self, alloc: Global, operator: Operator, place: u32) -> Result<(), Stop>
+        requires { 2 ≤ length self.old.values.items }
+        ensures steps { (nodes : List Node) (b : Bindings) (ts : List Todo) → TodosShow nodes ts (top_first self.old.tasks) → Fits (applies operator place ∷ ts) (length self.old.values.items) → Steps result nodes b (perform b (applies operator place ∷ ts) (top_first self.old.values)) self.new.tasks self.new.values }
+        ensures kept { self.new.tasks ≡ self.old.tasks }
+    {
+        let right = self.values.pop().unwrap();
+        let left = self.values.pop().unwrap();
+        self.give(operate(alloc, operator, place, left, &right))
+    }
+
+    /// Takes the next task.
+    fn step(
+        &mut self,
+        alloc: Global,
+        nodes: &[Node],
+        names: &Names,
+        task: Task,
+    ) -> Result<(), Stop>
+        requires { (t : Todo) × (ts : List Todo) × TodosShow nodes.now (t ∷ ts) (task ∷ top_first self.old.tasks) × Fits (t ∷ ts) (length self.old.values.items) }
+        ensures steps { (b : Bindings) → IsBoundAs b names.now → (t : Todo) (ts : List Todo) → TodosShow nodes.now (t ∷ ts) (task ∷ top_first self.old.tasks) → Fits (t ∷ ts) (length self.old.values.items) → Steps result nodes.now b (perform b (t ∷ ts) (top_first self.old.values)) self.new.tasks self.new.values }
+        ensures smaller { OnOk result (tasks_size nodes.now (top_first self.new.tasks) < task_size nodes.now task + tasks_size nodes.now (top_first self.old.tasks)) }
+    {
+        match task {
+            Task::Evaluate(id) => self.expand(alloc, nodes, names, id),
+            Task::Operate(operator, place) => self.apply(alloc, operator, place),
+        }
+    }
+}
+
+/// The value of the expression that a node shows.
+pub(crate) fn evaluate(
+    alloc: Global,
+    nodes: &[Node],
+    names: &Names,
+    id: NodeId,
+) -> Result<Value, Stop>
+    requires { (e : Sum) × SumShows e nodes.now id.0 }
+    ensures { (b : Bindings) → IsBoundAs b names.now → (e : Sum) → SumShows e nodes.now id.0 → Meets result (sum_value b e) }
+{
+    let mut evaluation = Evaluation {
+        tasks: Vec::new(alloc),
+        values: Vec::new(alloc),
+    };
+    evaluation.tasks.push(Task::Evaluate(id))?;
+    while let Some(task) = evaluation.tasks.pop() {
+        evaluation.step(alloc, nodes, names, task)?;
+    }
+    Ok(evaluation.values.pop().unwrap())
 }
