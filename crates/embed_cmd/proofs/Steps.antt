@@ -1,5 +1,5 @@
 -- One step of an evaluation.
-use Rattle.std.proofs.Common.{◌≡◌, ℕ, zero, suc, ◌+◌, ◌<◌, ◌≤◌, List, [], ◌∷◌, ◌++◌, Option, Some, None, Result, Ok, Err, IsSomeAnd, slice_get, get_or, length, reverse, OnOk, inl, inr, refl, sym, ap, ◌∙◌, subst, arith, length-append}
+use Rattle.std.proofs.Common.{◌≡◌, ℕ, zero, suc, ◌+◌, ◌<◌, ◌≤◌, List, [], ◌∷◌, ◌++◌, Option, Some, None, Result, Ok, Err, IsSomeAnd, slice_get, get_or, length, reverse, OnOk, inl, inr, Vec, Global, refl, sym, ap, ◌∙◌, subst, arith, length-append}
 use Rattle.std.proofs.lemmas.List.{reverse-append, length-reverse}
 use Rattle.std.proofs.lemmas.List.Sums.{sum_by-append, sum_by-cons}
 use Rattle.std.proofs.lemmas.Option.{slice_get_cases, slice_get_read}
@@ -16,9 +16,10 @@ use Rattle.embed_cmd.specs.declared.value.Value.{Value}
 use Rattle.embed_cmd.specs.declared.evaluate.Task.{Task}
 use Rattle.embed_cmd.specs.declared.evaluate.Task.TheVariants as tasks
 use Rattle.embed_cmd.specs.declared.stop.Stop.{Stop}
+use Rattle.embed_cmd.specs.declared.stop.Stop.TheVariants as stops
 use Rattle.embed_cmd.specs.Stops.{Meets}
 use Rattle.embed_cmd.specs.Evaluation.{Bindings, Answer, sum_value, and_then, operated}
-use Rattle.embed_cmd.specs.Tasks.{Todo, evaluates, applies, perform, applied, Fits, TodosShow, chain_tasks, tasks_size, task_size, size_of, Continues}
+use Rattle.embed_cmd.specs.Tasks.{Todo, evaluates, applies, perform, applied, Fits, TodosShow, chain_tasks, tasks_size, task_size, size_of, Continues, Steps, last_value}
 use Rattle.embed_cmd.proofs.Sizes.{chain_smaller, size_least}
 use Rattle.embed_cmd.proofs.Chains.{ReadsChain, Reads, reads_sum, show_append}
 
@@ -112,3 +113,52 @@ read_form b e nodes id node form h is same =
 -- a call that meets an answer meets one that is the same
 pub meets_same : (r : Result Value Stop) (x y : Answer) → y ≡ x → Meets r x → Meets r y
 meets_same r x y same h = subst (λ a. Meets r a) (sym same) h
+
+and_then_ok : (r : Answer) → r ≡ and_then r (λ v. Ok v)
+and_then_ok (Ok v) = refl
+and_then_ok (Err o) = refl
+
+-- the start of an evaluation
+pub begun : (nodes : List Node) (b : Bindings) (e : Sum) (id : NodeId) (xs : List Task) (vs : List Value) → SumShows e nodes id.0 → xs ≡ tasks.Evaluate id ∷ [] → vs ≡ [] → Continues nodes b (sum_value b e) (reverse xs) (reverse vs)
+begun nodes b e id xs vs shows is empty =
+    let P : List Task → Type 0 = λ ys. Continues nodes b (sum_value b e) (reverse ys) (reverse vs) in
+    let Q : List Value → Type 0 = λ ws. Continues nodes b (sum_value b e) (tasks.Evaluate id ∷ []) (reverse ws) in
+    subst P (sym is) (subst Q (sym empty) (record { todos = evaluates e ∷ []; shown = (shows, tt); fits = refl; gives = and_then_ok (sum_value b e) }))
+
+-- the next thing to do
+pub record Next (nodes : List Node) (b : Bindings) (answer : Answer) (x : Task) (xs : List Task) (vs : List Value) (n : ℕ) : Type 0 where
+  pub todo : Todo
+  pub rest : List Todo
+  pub shown : TodosShow nodes (todo ∷ rest) (x ∷ xs)
+  pub fits : Fits (todo ∷ rest) n
+  pub gives : answer ≡ perform b (todo ∷ rest) vs
+
+next_of : (nodes : List Node) (b : Bindings) (answer : Answer) (x : Task) (xs : List Task) (vs : List Value) (n : ℕ) (todos : List Todo)
+    → TodosShow nodes todos (x ∷ xs) → Fits todos n → answer ≡ perform b todos vs → Next nodes b answer x xs vs n
+next_of nodes b answer x xs vs n [] shown fits gives = absurd shown
+next_of nodes b answer x xs vs n (t ∷ ts) shown fits gives = record { todo = t; rest = ts; shown = shown; fits = fits; gives = gives }
+
+pub next : (nodes : List Node) (b : Bindings) (answer : Answer) (x : Task) (all left : List Task) (done : List Value)
+    → Continues nodes b answer (reverse all) (reverse done) → all ≡ left ++ x ∷ [] → Next nodes b answer x (reverse left) (reverse done) (length done)
+next nodes b answer x all left done h is =
+    let turned : reverse all ≡ x ∷ reverse left = ap reverse is ∙ reverse-append left (x ∷ []) in
+    next_of nodes b answer x (reverse left) (reverse done) (length done) h.todos (subst (λ ys. TodosShow nodes h.todos ys) turned h.shown) (subst (λ k. Fits h.todos k) (length-reverse done) h.fits) h.gives
+
+-- a step keeps what an evaluation gives
+pub goes_on : (nodes : List Node) (b : Bindings) (answer other : Answer) (xs : List Task) (vs : List Value) → answer ≡ other → Continues nodes b other xs vs → Continues nodes b answer xs vs
+goes_on nodes b answer other xs vs same h = subst (λ a. Continues nodes b a xs vs) (sym same) h
+
+-- and so does one that stops it
+pub stops_so : (stop : Stop) (nodes : List Node) (b : Bindings) (answer other : Answer) (xs : Vec Task Global) (vs : Vec Value Global)
+    → answer ≡ other → Steps {A = Unit {0}} (Err stop) nodes b other xs vs → Meets {A = Value} (Err stop) answer
+stops_so (stops.Outside o) nodes b answer other xs vs same h = same ∙ h
+stops_so stops.NoMemory nodes b answer other xs vs same h = tt
+
+ended : (nodes : List Node) (b : Bindings) (answer : Answer) (vs : List Value) (n : ℕ) (todos : List Todo) → TodosShow nodes todos [] → Fits todos n → answer ≡ perform b todos vs → (n ≡ 1) × (answer ≡ last_value vs)
+ended nodes b answer vs n [] shown fits gives = (fits, gives)
+ended nodes b answer vs n (t ∷ ts) shown fits gives = absurd shown
+
+-- where nothing is left to do, there is one value, and it is the answer
+pub one_left : (nodes : List Node) (b : Bindings) (answer : Answer) (all : List Task) (done : List Value) → Continues nodes b answer (reverse all) (reverse done) → all ≡ [] → (length done ≡ 1) × (answer ≡ last_value (reverse done))
+one_left nodes b answer all done h empty =
+    ended nodes b answer (reverse done) (length done) h.todos (subst (λ ys. TodosShow nodes h.todos (reverse ys)) empty h.shown) (subst (λ k. Fits h.todos k) (length-reverse done) h.fits) h.gives
