@@ -35,6 +35,13 @@ impl PlainString {
         Ok(PlainString { text })
     }
 
+    /// The text of a `String`, whose bytes aren't copied.
+    pub fn from_string(text: String) -> PlainString
+        ensures { result ≡ string_bytes text }
+    {
+        PlainString { text }
+    }
+
     /// The text itself, lent.
     pub fn as_str(&self) -> &str
         ensures { result.now ≡ self.now }

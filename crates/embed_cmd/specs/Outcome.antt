@@ -11,6 +11,7 @@ use Rattle.embed_base.specs.declared.outside.Place.TheVariants as places
 use Rattle.embed_base.specs.declared.outside.Outside.{Outside}
 use Rattle.host_parser.specs.Grammar.{Sum, Listed, single, comma, Arguments, none, listed, Script, nothing, declaration, printing}
 use Rattle.embed_cmd.specs.declared.value.Value.{Value}
+use Rattle.embed_cmd.specs.declared.transcript.Transcript.{Transcript}
 use Rattle.embed_cmd.specs.Values.{shown_of}
 use Rattle.embed_cmd.specs.Evaluation.{Bindings, sum_value, values_of}
 
@@ -84,11 +85,6 @@ outcome_of_progress (ended lines o) = record { lines = lines; end = outside o }
 
 abbrev pub outcome_of : Script → Outcome
 outcome_of script = outcome_of_progress (run_of script)
-
--- the transcript of a run: what is written, and the status
-pub record Transcript : Type 0 where
-  pub status : Status
-  pub text : List ℕ
 
 -- lines, each with its line feed
 abbrev pub text_of_lines : List (List ℕ) → List ℕ

@@ -1,7 +1,9 @@
 //! The command: its words, its run, and the top call.
 #![tactic(auto)]
 
+mod end_line;
 mod evaluate;
 mod operators;
 mod stop;
+mod transcript;
 mod value;
