@@ -4,3 +4,4 @@ pub mod Evaluation
 pub mod Outcome
 pub mod Stops
 pub mod Tasks
+pub mod Runs

@@ -4,6 +4,7 @@
 mod end_line;
 mod evaluate;
 mod operators;
+mod run;
 mod stop;
 mod transcript;
 mod value;
