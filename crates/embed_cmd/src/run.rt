@@ -1,8 +1,8 @@
-ghost use Rattle.std.specs.Prelude.{◌≡◌, ℕ, List, ◌∷◌, ◌++◌, [], OnOk, IfOk, string_bytes};
+ghost use Rattle.std.specs.Prelude.{◌≡◌, ℕ, List, ◌∷◌, ◌++◌, [], Err, OnOk, IfOk, string_bytes};
 ghost use Rattle.host_parser.specs.Grammar as grammar;
 ghost use Rattle.host_parser.specs.Shows.{SumShows, ScriptShows};
 ghost use Rattle.embed_cmd.specs.Evaluation.{Bindings, sum_value, values_of};
-ghost use Rattle.embed_cmd.specs.Outcome.{Statement, going, performed, bind_answer, print_answer, line_of, outcome_of, transcript_of};
+ghost use Rattle.embed_cmd.specs.Outcome.{Statement, going, performed, bind_answer, print_answer, line_of, outcome_of, outcome_of_progress, transcript_of, Progress, done};
 ghost use Rattle.embed_cmd.specs.Tasks.{IsBoundAs};
 ghost use Rattle.embed_cmd.specs.Runs.{SumsShow, StatementShows, MeetsAll, HasPrinted, Performs};
 
@@ -11,7 +11,7 @@ use crate::evaluate::{Names, evaluate};
 use crate::stop::Stop;
 use crate::transcript::Transcript;
 use crate::value::Value;
-use embed_base::{PlainString, Status};
+use embed_base::{Outside, PlainString, Status};
 use host_parser::{Form, Node, NodeId, Script};
 use std::alloc::{AllocError, Global};
 use std::collections::HashMap;
@@ -95,4 +95,60 @@ impl Run {
             Form::Number(_) | Form::Text(_) | Form::Name(_) | Form::Chain(..) => unreachable!(),
         }
     }
+}
+
+impl Run {
+    /// The transcript of a run that stopped.
+    fn stopped(self, stop: Stop) -> Result<Transcript, AllocError>
+        ensures { (p : Progress) → Performs {A = Unit {0}} (Err stop) p self → IfOk result (λ t. t ≡ transcript_of (outcome_of_progress p)) }
+    {
+        let Run { names: _, mut text } = self;
+        match stop {
+            Stop::NoMemory => Err(AllocError),
+            Stop::Outside(refusal) => {
+                add_refusal(&mut text, refusal)?;
+                Ok(Transcript {
+                    status: Status::Outside,
+                    text: PlainString::from_string(text),
+                })
+            }
+        }
+    }
+
+    /// The transcript of a run that came to the script's end.
+    fn done(self) -> Transcript
+        ensures { (lines : List (List ℕ)) → HasPrinted lines self → result ≡ transcript_of (record { lines = lines; end = done }) }
+    {
+        let Run { names: _, text } = self;
+        Transcript {
+            status: Status::Done,
+            text: PlainString::from_string(text),
+        }
+    }
+}
+
+/// The transcript of a script's statements.
+fn perform_all(alloc: Global, nodes: &[Node], ids: &[NodeId]) -> Result<Transcript, AllocError>
+    requires { (d : grammar.Script) × ScriptShows d nodes.now ids.now }
+    ensures { (d : grammar.Script) → ScriptShows d nodes.now ids.now → IfOk result (λ t. t ≡ transcript_of (outcome_of d)) }
+{
+    let mut run = Run {
+        names: HashMap::new(alloc),
+        text: String::new(alloc),
+    };
+    for id in ids {
+        match run.perform(alloc, nodes, *id) {
+            Ok(()) => {}
+            Err(stop) => return run.stopped(stop),
+        }
+    }
+    Ok(run.done())
+}
+
+/// The transcript of a script.
+pub(crate) fn run_script(alloc: Global, script: &Script) -> Result<Transcript, AllocError>
+    requires { (d : grammar.Script) × ScriptShows d script.now.nodes script.now.top }
+    ensures { (d : grammar.Script) → ScriptShows d script.now.nodes script.now.top → IfOk result (λ t. t ≡ transcript_of (outcome_of d)) }
+{
+    perform_all(alloc, script.nodes.as_slice(), script.top.as_slice())
 }
