@@ -1,6 +1,11 @@
 //! The tokens of a script.
 #![tactic(auto)]
 
+mod bytes;
+mod lexer;
+mod number;
 mod token;
+mod words;
 
+pub use lexer::tokens;
 pub use token::{LexError, Mark, Token, TokenKind, Word};
