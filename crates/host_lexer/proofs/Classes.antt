@@ -57,7 +57,7 @@ pub part_ascii : (c : ℕ) → is_name_part c ≡ true → c < 128
 part_ascii c h = grind (arith, nat_tests)
 
 -- where the one element that may begin can't, none begins
-no_element : (bytes : List ℕ) (from : ℕ) (e : Element) → front (drop from bytes) ≡ Some e → ((rest : List ℕ) → Heads (drop from bytes) e rest → ⊥) → NoElement bytes from
+pub no_element : (bytes : List ℕ) (from : ℕ) (e : Element) → front (drop from bytes) ≡ Some e → ((rest : List ℕ) → Heads (drop from bytes) e rest → ⊥) → NoElement bytes from
 no_element bytes from e f never d rest h =
     let q : d ≡ e = (let g = fronted (drop from bytes) d rest h in cc) in
     never rest (subst (λ x. Heads (drop from bytes) x rest) q h)

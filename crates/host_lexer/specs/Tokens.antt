@@ -161,6 +161,14 @@ abbrev pub InOrder : ℕ → ℕ → List Token → Type 0
 InOrder at len [] = at ≤ len
 InOrder at len (t ∷ ts) = (at ≤ t.from) × (t.from < t.to) × IsTokenKind t.kind × InOrder t.to len ts
 
+-- the bytes of a token of a kind: those of a name or word, the decimal digits of a number, a text between its quotes, a mark
+abbrev pub Spells : List ℕ → TokenKind → Type 0
+Spells bytes (kinds.Name w) = bytes ≡ w
+Spells bytes (kinds.Word words.Let) = bytes ≡ codes "let"
+Spells bytes (kinds.Number n) = IsDecimal bytes × (value_of bytes ≡ n)
+Spells bytes (kinds.Text s) = bytes ≡ 34 ∷ (s ++ 34 ∷ [])
+Spells bytes (kinds.Mark m) = bytes ≡ byte_of m ∷ []
+
 -- the answer is these tokens, unless memory ran out
 abbrev pub Gives : Result (Vec Token Global) LexError → List Token → Type 0
 Gives (Ok v) ts = v.items ≡ ts

@@ -1,6 +1,6 @@
-ghost use Rattle.std.specs.Prelude.{◌≡◌, ℕ, List, true, false, ◌<◌, ◌^◌, [], ◌∷◌, ◌++◌, OnOk, IfOk, IfErr, MatchOption, length, slice_index};
+ghost use Rattle.std.specs.Prelude.{◌≡◌, ℕ, List, true, false, ◌<◌, ◌^◌, [], ◌∷◌, ◌++◌, OnOk, IfOk, IfErr, MatchOption, length, slice_index, slice_range, All};
 ghost use Rattle.host_lexer.specs.declared.token.Token.{Token};
-ghost use Rattle.host_lexer.specs.Tokens.{HasTokens, InOrder, Gives, byte_of, is_name_start, is_digit};
+ghost use Rattle.host_lexer.specs.Tokens.{HasTokens, InOrder, Spells, Gives, byte_of, is_name_start, is_digit};
 ghost use Rattle.host_lexer.specs.Steps.{Reads, NoElement, OnNotYet};
 ghost use Rattle.host_lexer.specs.declared.token.Mark.{Mark};
 
@@ -31,6 +31,9 @@ pub fn tokens(alloc: Global, text: &str) -> Result<Vec<Token>, LexError>
 
     // They stand in order, apart and within the text, and each kind is one that can be.
     ensures spans { IfOk result (λ ts. InOrder 0 (length text.now) ts.items) }
+
+    // The bytes of the text between a token's ends spell it.
+    ensures spelled { IfOk result (λ ts. All (λ t. Spells (slice_range text.now t.from t.to) t.kind) ts.items) }
 {
     let bytes = text.as_bytes();
     let mut found = Vec::new(alloc);

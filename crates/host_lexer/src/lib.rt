@@ -4,6 +4,8 @@
 mod bytes;
 mod lexer;
 mod number;
+#[cfg(test)]
+mod tests;
 mod token;
 mod words;
 

@@ -5,6 +5,7 @@ use Rattle.host_lexer.specs.Tokens.{HasTokens}
 use Rattle.host_lexer.specs.Steps.{Reads, NoElement, OnNotYet}
 use Rattle.host_lexer.proofs.Order.{in_order}
 use Rattle.host_lexer.proofs.Reached.{Reached, step_space, step_line, step_token, found_all, only_these, refuses}
+use Rattle.host_lexer.proofs.Spelled.{are_spelled}
 use Rattle.host_lexer.proofs.lexer.tokens.Goals as goal
 
 pub loop-at-preserved-in-32 : goal.loop-at-preserved-in-32
@@ -49,3 +50,6 @@ returns-clause-only c = λ ts h. only_these c.as_bytes-bytes.result.now c.loop-a
 
 pub returns-clause-spans : goal.returns-clause-spans
 returns-clause-spans c = in_order c.args.text.now c.loop-at.found.items (returns-clause-found c)
+
+pub returns-clause-spelled : goal.returns-clause-spelled
+returns-clause-spelled c = are_spelled c.args.text.now c.loop-at.found.items (returns-clause-found c)
