@@ -6,14 +6,14 @@ ghost use Rattle.host_lexer.specs.Tokens as spec;
 pub fn is_digit(byte: u8) -> bool
     ensures { result ≡ spec.is_digit byte }
 {
-    byte >= b'0' && byte <= b'9'
+    byte.is_ascii_digit()
 }
 
 // What a name begins with: a letter, `$` or `_`.
 pub fn is_name_start(byte: u8) -> bool
     ensures { result ≡ spec.is_name_start byte }
 {
-    (byte >= b'A' && byte <= b'Z') || (byte >= b'a' && byte <= b'z') || byte == b'$' || byte == b'_'
+    byte.is_ascii_alphabetic() || byte == b'$' || byte == b'_'
 }
 
 // What a name goes on with.
@@ -34,7 +34,7 @@ pub fn is_number_part(byte: u8) -> bool
 pub fn is_text_part(byte: u8) -> bool
     ensures { result ≡ spec.is_text_part byte }
 {
-    byte >= b' ' && byte <= b'~' && byte != b'"' && byte != b'\\'
+    matches!(byte, b' '..=b'~') && byte != b'"' && byte != b'\\'
 }
 
 // How many of the first bytes go on with a name.
