@@ -1,14 +1,17 @@
 -- The splitting of a script's text into tokens (ECMA-262, section 12, cut to the profile's first script form): the text
 -- is a row of input elements, each the longest that can stand there.
-use Rattle.std.specs.Prelude.{◌≡◌, ℕ, ◌+◌, ◌-◌, ◌*◌, ◌<◌, ◌≤◌, Bool, true, false, not, ◌&&◌, ◌||◌, ◌==◌, nat_le, List, [], ◌∷◌, ◌++◌, ◌⊎◌, length, fold, All, Contains, codes, if◌then◌else◌}
+use Rattle.std.specs.Prelude.{◌≡◌, ℕ, ◌+◌, ◌-◌, ◌*◌, ◌<◌, ◌≤◌, Bool, true, false, not, ◌&&◌, ◌||◌, ◌==◌, nat_le, List, [], ◌∷◌, ◌++◌, ◌⊎◌, length, fold, All, Contains, codes, if◌then◌else◌, Result, Ok, Err}
 use Rattle.std.specs.Str.{bytes_eq}
-use Rattle.host_lexer.specs.declared.token.Word.{Word}
+use Rattle.std.specs.declared.alloc.Global.{Global}
+use Rattle.std.specs.declared.vec.Vec.{Vec}
 use Rattle.host_lexer.specs.declared.token.Word.TheVariants as words
 use Rattle.host_lexer.specs.declared.token.Mark.{Mark}
 use Rattle.host_lexer.specs.declared.token.Mark.TheVariants as marks
 use Rattle.host_lexer.specs.declared.token.TokenKind.{TokenKind}
 use Rattle.host_lexer.specs.declared.token.TokenKind.TheVariants as kinds
 use Rattle.host_lexer.specs.declared.token.Token.{Token}
+use Rattle.host_lexer.specs.declared.token.LexError.{LexError}
+use Rattle.host_lexer.specs.declared.token.LexError.TheVariants as errors
 
 -- a decimal digit
 abbrev pub is_digit : ℕ → Bool
@@ -157,3 +160,16 @@ IsTokenKind _ = Unit {0}
 abbrev pub InOrder : ℕ → ℕ → List Token → Type 0
 InOrder at len [] = at ≤ len
 InOrder at len (t ∷ ts) = (at ≤ t.from) × (t.from < t.to) × IsTokenKind t.kind × InOrder t.to len ts
+
+-- the bytes of a token of a kind: those of a name or word, the decimal digits of a number, a text between its quotes, a mark
+abbrev pub Spells : List ℕ → TokenKind → Type 0
+Spells bytes (kinds.Name w) = bytes ≡ w
+Spells bytes (kinds.Word words.Let) = bytes ≡ codes "let"
+Spells bytes (kinds.Number n) = IsDecimal bytes × (value_of bytes ≡ n)
+Spells bytes (kinds.Text s) = bytes ≡ 34 ∷ (s ++ 34 ∷ [])
+Spells bytes (kinds.Mark m) = bytes ≡ byte_of m ∷ []
+
+-- the answer is these tokens, unless memory ran out
+abbrev pub Gives : Result (Vec Token Global) LexError → List Token → Type 0
+Gives (Ok v) ts = v.items ≡ ts
+Gives (Err e) ts = e ≡ errors.NoMemory

@@ -1,6 +1,13 @@
 //! The tokens of a script.
 #![tactic(auto)]
 
+mod bytes;
+mod lexer;
+mod number;
+#[cfg(test)]
+mod tests;
 mod token;
+mod words;
 
+pub use lexer::tokens;
 pub use token::{LexError, Mark, Token, TokenKind, Word};

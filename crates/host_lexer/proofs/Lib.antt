@@ -1,0 +1,9 @@
+pub mod Among
+pub mod Cases
+pub mod Classes
+pub mod Fronts
+pub mod Numbers
+pub mod Order
+pub mod Reached
+pub mod Runs
+pub mod Spelled
