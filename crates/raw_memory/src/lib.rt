@@ -1,0 +1,4 @@
+//! The bytes of one linear memory, in one block behind a raw pointer.
+#![tactic(auto)]
+
+mod cells;
