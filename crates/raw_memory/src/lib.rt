@@ -2,3 +2,6 @@
 #![tactic(auto)]
 
 mod cells;
+mod raw_mem;
+
+pub use raw_mem::RawMem;
