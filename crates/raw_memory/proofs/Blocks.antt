@@ -1,5 +1,5 @@
 -- The bytes of a block grow by one at their end, and a byte that is no longer wanted is room.
-use Rattle.raw_memory.proofs.Steps.{ℕ, suc, ◌+◌, List, [], ◌∷◌, ◌++◌, length, refl, arith, w8, Ura, full_share, ent, sep, emp, ftrue, fat, froom, ty_int, vint, Logic, sem, cells, ‵, ◌⊛◌, ◌$◌, ◌∵◌, !, qed, by, done, move, drop, use1, use2, fsplit, fjoin, rewrite, u8, mem, part_at, uint_out, nothing}
+use Rattle.raw_memory.proofs.Steps.{ℕ, suc, ◌+◌, List, [], ◌∷◌, ◌++◌, length, refl, arith, w8, Ura, full_share, ent, sep, ftrue, fat, froom, ty_int, vint, Logic, sem, cells, ‵, ◌$◌, ◌∵◌, !, qed, by, done, move, drop, use1, use2, fsplit, fjoin, rewrite, u8, mem, part_at, uint_out, nothing}
 use Rattle.raw_memory.specs.Ownership.{places}
 
 module _ {M : Type 1} {𝓤 : Ura M} (𝓛 : Logic 𝓤) where

@@ -1,5 +1,5 @@
 -- What the bytes of a number are worth.
-use Rattle.std.proofs.Common.{◌≡◌, ℕ, zero, suc, ◌+◌, ◌*◌, List, [], ◌∷◌, length, drop, get_or, refl, ap, w64, arith}
+use Rattle.std.proofs.Common.{◌≡◌, ℕ, zero, suc, ◌+◌, ◌*◌, List, [], ◌∷◌, length, drop, get_or, refl, w64, arith}
 use Rattle.std.specs.Int.{from_le_bytes}
 use Rattle.raw_memory.specs.Bytes.{number}
 

@@ -15,7 +15,7 @@ use denote.RawPtr.{Ptr, block_ptr, null_ptr}
 use denote.Param.Shared.{copy_shared}
 use denote.Struct.Field.{u8-field}
 use denote.Struct.Laws.{u8-copy}
-use denote.Sharing.{ShrLaws, said, nothing}
+use denote.Sharing.{ShrLaws, said}
 use denote.SharingLaws.{beside_shr_laws, said_shr_laws}
 use denote.Slice.{elements_shared, elements_shr_laws}
 use denote.Struct.Lending.{Lends, Lends-both, Lends-first, Lends-nothing, Lends-said, Lends-false}

@@ -1,7 +1,7 @@
 -- The names that the proofs by hand cite.
 pub use Rattle.std.proofs.Common.{◌≡◌, ℕ, suc, ◌+◌, ◌-◌, ◌*◌, ◌^◌, ◌<◌, ◌≤◌, List, [], ◌∷◌, ◌++◌, length, refl, sym, ap, subst, ◌∙◌, arith, lit<, length-append, w8, w64, MutBor}
 pub use Rattle.std.proofs.raw_atomic.Walks.{proved, proved_at, leaves}
-pub use Rattle.core.proofs.alloc.Shapes.{after, head, arm_body}
+pub use Rattle.std.proofs.alloc.Shapes.{after, head, arm_body}
 pub use seplogic.Ra.Ura.{Ura}
 pub use base.Fraction.{full_share}
 pub use base.Logic.{SProp, ent, sep, never, emp, id⊢}

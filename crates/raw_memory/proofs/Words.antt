@@ -3,7 +3,7 @@ use Rattle.std.proofs.Common.{◌≡◌, List, [], ◌∷◌, ◌++◌, refl, �
 use seplogic.Ra.Ura.{Ura}
 use base.Logic.{ent, sep, emp}
 use base.Fml.{Fml}
-use mir.Syntax.{Ty, ty_ptr, ty_struct, tcons, tnil}
+use mir.Syntax.{ty_ptr, ty_struct, tcons, tnil}
 use mir.Val.{Val, vstruct, vcons, vnil, of_list, has_ty, WT}
 use lib.Dec.{T}
 use types.Kit.{‵, ◌$◌, ◌∵◌, !, qed, move, fjoin, fpack, feq_i, done}

@@ -1,5 +1,5 @@
 -- A linear memory as its list of bytes (WebAssembly Core 2.0, 4.2.8 memory instances, 4.4.7 memory instructions).
-use Rattle.std.specs.Prelude.{◌≡◌, ℕ, zero, suc, ◌+◌, ◌*◌, ◌/◌, ◌%◌, ◌≤◌, ◌⊎◌, List, [], ◌∷◌, ◌++◌, length, take, drop, replicate}
+use Rattle.std.specs.Prelude.{◌≡◌, ℕ, zero, suc, ◌+◌, ◌*◌, ◌/◌, ◌%◌, ◌<◌, ◌≤◌, ◌⊎◌, List, [], ◌∷◌, ◌++◌, length, take, drop, replicate, slice_index}
 
 -- the bytes of one page
 abbrev pub page_size : ℕ
@@ -28,6 +28,10 @@ run bytes at n = take n (drop at bytes)
 -- the bytes with new ones in the place of the n from at on, and the others as they are
 abbrev pub replaced : List ℕ → ℕ → ℕ → List ℕ → List ℕ
 replaced bytes at n new = take at bytes ++ new ++ drop (at + n) bytes
+
+-- the bytes outside the n from at on are as they were
+abbrev pub SameOutside : List ℕ → List ℕ → ℕ → ℕ → Type 0
+SameOutside old new at n = (k : ℕ) → (k < at) ⊎ (at + n ≤ k) → slice_index new k ≡ slice_index old k
 
 -- a load or store takes 1, 2, 4 or 8 bytes
 abbrev pub IsWidth : ℕ → Type 0

@@ -51,13 +51,14 @@ impl RawMem {
     ghost use Rattle.std.specs.Bool.{OnTrue, OnFalse};
     ghost use Rattle.std.specs.Borrow.{sem, Lends, Array, u8 as byte_row};
     ghost use Rattle.std.specs.List.{refill};
-    ghost use Rattle.raw_memory.specs.Bytes.{most_pages, page_size, IsMemorySize, zeros, InRange, run, replaced, IsWidth, number, low_bytes};
+    ghost use Rattle.raw_memory.specs.Bytes.{most_pages, page_size, IsMemorySize, zeros, InRange, run, replaced, SameOutside, IsWidth, number, low_bytes};
     ghost use Rattle.raw_memory.specs.contracts.raw_mem.RawMem.{the_row};
 
     /// A memory of `pages` pages, all zero. It may have none.
     pub fn new(alloc: Global, pages: u32) -> Result<RawMem, AllocError>
         requires { pages ≤ most_pages }
         ensures zeros { IfOk result (λ m. m ≡ zeros (pages * page_size)) }
+        ensures len { IfOk result (λ m. length m ≡ pages * page_size) }
     {
         RawMem::zeroed(alloc, pages as usize * PAGE_SIZE)
     }
@@ -82,8 +83,12 @@ impl RawMem {
     pub fn grow(&mut self, alloc: Global, pages: u32) -> Result<(), AllocError>
         requires { length self.old + pages * page_size ≤ most_pages * page_size }
         ensures grown { OnOk result (self.new ≡ self.old ++ zeros (pages * page_size)) }
+        ensures len { OnOk result (length self.new ≡ length self.old + pages * page_size) }
         ensures refused { OnErr result (self.new ≡ self.old) }
     {
+        if pages == 0 {
+            return Ok(());
+        }
         let mut larger = RawMem::zeroed(alloc, self.len + pages as usize * PAGE_SIZE)?;
         put(larger.bytes_mut(), 0, self.bytes());
         mem::swap(self, &mut larger);
@@ -159,6 +164,8 @@ impl RawMem {
         requires { IsWidth width }
         ensures in_range { IsTrue result ↔ InRange self.old at width }
         ensures written { OnTrue result (self.new ≡ replaced self.old at width (low_bytes width v)) }
+        ensures reads_back { OnTrue result (number (run self.new at width) ≡ v % 256 ^ width) }
+        ensures outside { SameOutside self.old self.new at width }
         ensures refused { OnFalse result (self.new ≡ self.old) }
         ensures len { length self.new ≡ length self.old }
     {
@@ -173,6 +180,7 @@ impl RawMem {
     pub fn fill(&mut self, at: u64, len: u64, byte: u8) -> bool
         ensures in_range { IsTrue result ↔ InRange self.old at len }
         ensures written { OnTrue result (self.new ≡ replaced self.old at len (replicate len byte)) }
+        ensures outside { SameOutside self.old self.new at len }
         ensures refused { OnFalse result (self.new ≡ self.old) }
         ensures len { length self.new ≡ length self.old }
     {
@@ -187,6 +195,7 @@ impl RawMem {
     pub fn copy_within(&mut self, to: u64, from: u64, len: u64) -> bool
         ensures in_range { IsTrue result ↔ (InRange self.old to len × InRange self.old from len) }
         ensures written { OnTrue result (self.new ≡ replaced self.old to len (run self.old from len)) }
+        ensures outside { SameOutside self.old self.new to len }
         ensures refused { OnFalse result (self.new ≡ self.old) }
         ensures len { length self.new ≡ length self.old }
     {
@@ -201,6 +210,7 @@ impl RawMem {
     pub fn write(&mut self, at: u64, bytes: &[u8]) -> bool
         ensures in_range { IsTrue result ↔ InRange self.old at (length bytes.now) }
         ensures written { OnTrue result (self.new ≡ replaced self.old at (length bytes.now) bytes.now) }
+        ensures outside { SameOutside self.old self.new at (length bytes.now) }
         ensures refused { OnFalse result (self.new ≡ self.old) }
         ensures len { length self.new ≡ length self.old }
     {
@@ -275,5 +285,8 @@ fn shift(bytes: &mut [u8], to: usize, from: usize, len: usize)
 {
     bytes.copy_within(from..from + len, to);
 }
+
+// A pointer and a length.
+const _: () = prove!(mem::size_of::<RawMem>() == 16);
 
 const _: () = prove!(mem::size_of::<RawMem>() < mem::size_of::<Vec<u8>>());

@@ -1,5 +1,5 @@
 -- `allocate` cuts the new block into room for bytes and the right to free it.
-use Rattle.raw_memory.proofs.Steps.{◌≡◌, ℕ, ◌+◌, ◌*◌, ◌^◌, ◌<◌, List, [], ◌∷◌, length, refl, ◌∙◌, arith, lit<, w64, proved, after, head, arm_body, id⊢, SProp, Lft, Share, ftrue, froom, flft, named, Val, vint, vptr, Env, WpFn, fact, tables, ‵, raw, ◌⊛◌, later, at_ret, ◌$◌, ◌∵◌, !, qed, done, move, keep, use0, use1, use2, use3, split, join, fsplit, fjoin, flt_i, await, rewrite, suffices, frame, enter, of_opd, lit, stop, fld, no_more, and_then, first, switches_on, exec, returns, alloc_all, pass_all, free_all, look_at, get, get_in, get_tag, sets, sets_last, lands_as, env, usize, RefOf, yes, whole, agg, uint_vals, uint_Tells, RattleType, owns, Ptr, block_ptr, ShrRef, shr_vals, shr_Tells, plain, nothing, heard, Stays, walk_of, says, stay_dropped, Goes-dropped, ends_at}
+use Rattle.raw_memory.proofs.Steps.{ℕ, ◌+◌, ◌*◌, ◌^◌, ◌<◌, [], ◌∷◌, refl, ◌∙◌, arith, lit<, w64, proved, after, head, arm_body, id⊢, SProp, Lft, Share, ftrue, froom, flft, named, Val, Env, fact, tables, ‵, raw, ◌⊛◌, later, at_ret, ◌$◌, ◌∵◌, !, qed, done, move, keep, use0, use1, use2, use3, split, join, fsplit, fjoin, flt_i, await, rewrite, suffices, frame, enter, of_opd, lit, stop, fld, no_more, and_then, first, switches_on, exec, returns, alloc_all, pass_all, free_all, look_at, get, get_in, get_tag, sets, sets_last, lands_as, env, usize, RefOf, yes, whole, agg, uint_vals, uint_Tells, RattleType, owns, Ptr, block_ptr, ShrRef, shr_vals, shr_Tells, plain, nothing, heard, Stays, walk_of, says, stay_dropped, Goes-dropped, ends_at}
 use mir.Syntax.{Ty, Fn, Args, a_type, dcons, dnil}
 use mir.Val.{vstruct, vcons, vnil}
 use mir.MapTy.{inst_fn}
@@ -15,12 +15,12 @@ use denote.Struct.Declared as Declared
 use denote.Struct.Struct.{Struct, Struct-Makes}
 use denote.Struct.Tuple.{Tuple}
 use denote.Triple.Call.{calls_at}
+use denote.Triple.Table.{framed}
 use Rattle.std.specs.Prelude.{true, false, Ok, Err}
-use Rattle.core.specs.contracts.alloc.AllocError as AE
-use Rattle.core.specs.contracts.result.Result as RS
-use Rattle.core.proofs.alloc.Calls.{Al, Answer-typed, seen, Takes, at_takes, Answered, Takes-goes, Takes-gives, answers}
-use Rattle.core.proofs.atomic.Steps.{fm}
-use Rattle.std_alloc.proofs.ResultValues.{ok_of, err_of}
+use Rattle.std.specs.contracts.alloc.AllocError as AE
+use Rattle.std.specs.contracts.result.Result as RS
+use Rattle.std.proofs.alloc.Calls.{Al, Answer-typed, seen, Takes, at_takes, Answered, Takes-goes, Takes-gives, answers}
+use Rattle.std.proofs.ResultValues.{ok_of, err_of}
 use Rattle.raw_memory.proofs.Words.{word, base_made, mark, mark_own, mark_made, trio, trio_made}
 use Rattle.raw_memory.specs.Ownership.{places}
 use Rattle.raw_memory.specs.contracts.cells.Base.{the_row as B}
@@ -63,7 +63,7 @@ allocate_spec 𝓤 𝓛 𝓜 𝓡 wired A L g d dd met md =
     let En : Env 𝓤 H = env fn.locals l in
     let Then : After 𝓤 H = any_q (after_seq 𝓤 H (Wp 𝓤 H 𝓣.C 𝓣.Λ En (after 2 fn.body) (at_return 𝓤 H En Post)) (at_return 𝓤 H En Post)) in
     use2 𝓛 (raw ((Takes Y 𝓛 𝓜.mem 𝓡.returns).pre z)) (Takes-goes Y 𝓛 𝓜.mem 𝓡.returns κ q at h (⊑_trans κ κs.1.0 A.lives bounds.0 le) len 1 τ (capped_is (len * 1) (omega arith) ∙ omega arith) refl fits_len (lit< tt)) $
-    calls_at ! (fm 𝓛 𝓜 𝓡) (Takes Y 𝓛 𝓜.mem 𝓡.returns) (met.allocate dd) z (and_then ! (get ! refl) (and_then ! (get ! refl) (and_then ! (lit ! tt) (no_more !)))) (λ v.
+    calls_at ! (framed 𝓤 H 𝓜 𝓣) (Takes Y 𝓛 𝓜.mem 𝓡.returns) (met.allocate dd) z (and_then ! (get ! refl) (and_then ! (get ! refl) (and_then ! (lit ! tt) (no_more !)))) (λ v.
     use1 𝓛 (later (raw (Answered Y 𝓛 𝓜.mem 𝓡.returns h τ v) ⊛ ‵ (flft κ q))) (Takes-gives Y 𝓛 𝓜.mem 𝓡.returns κ q at h len 1 τ v) $ await ! tt $ split ! $
     answers Y ! 𝓜.mem 𝓡.returns h τ v
     (λ b o e.

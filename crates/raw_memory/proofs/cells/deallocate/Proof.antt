@@ -1,5 +1,5 @@
 -- `deallocate` makes the block of room again, and hands it back with the right to free it.
-use Rattle.raw_memory.proofs.Steps.{◌≡◌, ℕ, ◌*◌, ◌^◌, ◌<◌, List, [], ◌∷◌, length, refl, sym, subst, ◌∙◌, arith, lit<, w64, proved, after, full_share, never, id⊢, SProp, Lft, Share, ftrue, fat, froom, flft, named, Val, vunit, vint, vptr, Env, fact, tables, ‵, raw, ◌⊛◌, later, given, at_ret, ◌$◌, ◌∵◌, !, qed, done, move, keep, drop, use1, split, join, fsplit, fjoin, feq_i, learn, await, rewrite, suffices, frame, group, enter, of_opd, lit, unit_lit, stop, fld, no_more, and_then, first, blocks, exec, returns, alloc_all, pass_all, free_all, look_at, get, get_in, sets, lands_last, take_at, give_at, env, usize, RefOf, yes, whole, sub, lone, uint_vals, uint_Tells, RattleType, owns, Ptr, block_ptr, in_a_block, ShrRef, shr_vals, shr_Tells, plain, nothing, heard, Stays, walk_of, stay_dropped, Goes-dropped, ends_at}
+use Rattle.raw_memory.proofs.Steps.{◌≡◌, ℕ, ◌*◌, ◌^◌, ◌<◌, List, [], ◌∷◌, length, refl, sym, subst, ◌∙◌, arith, lit<, w64, proved, after, full_share, never, id⊢, SProp, Lft, Share, ftrue, fat, froom, flft, named, Val, vunit, Env, fact, tables, ‵, raw, ◌⊛◌, later, given, at_ret, ◌$◌, ◌∵◌, !, qed, done, move, keep, drop, use1, split, join, fsplit, feq_i, learn, await, rewrite, suffices, group, enter, of_opd, lit, unit_lit, stop, fld, no_more, and_then, first, blocks, exec, returns, alloc_all, pass_all, free_all, look_at, get, get_in, sets, lands_last, take_at, give_at, env, usize, RefOf, whole, sub, lone, uint_vals, uint_Tells, RattleType, owns, Ptr, in_a_block, ShrRef, shr_vals, shr_Tells, plain, nothing, heard, Stays, walk_of, stay_dropped, Goes-dropped, ends_at}
 use lib.Dec.{T}
 use mir.Syntax.{Ty, Fn, Args, a_type, dcons, dnil, ty_unit}
 use mir.Val.{has_ty, WT}
@@ -8,8 +8,8 @@ use contract.BorrowLft.{◌⊑◌, ⊑_trans}
 use prog.Capped.{capped_is}
 use denote.Param.{param, bounded}
 use denote.Triple.Call.{calls_at_last}
-use Rattle.core.proofs.alloc.Calls.{Al, seen, Goes-blank, Gives, at_gives, Gives-goes, Gives-Gives}
-use Rattle.core.proofs.atomic.Steps.{fm}
+use denote.Triple.Table.{framed}
+use Rattle.std.proofs.alloc.Calls.{Al, seen, Goes-blank, Gives, at_gives, Gives-goes, Gives-Gives}
 use Rattle.raw_memory.proofs.Blocks.{forgotten}
 use Rattle.raw_memory.proofs.Words.{word, base_vals, base_Tells, word_typed, mark, mark_told}
 use Rattle.raw_memory.specs.Ownership.{places, cells_own}
@@ -31,9 +31,16 @@ deallocate_spec 𝓤 𝓛 𝓜 𝓡 wired A L g d dd met md =
     let ks = E.kept in
     let hs : Stays E.signature.params ks = (stay_dropped (RefOf (0 ∷ []) tt (plain (λ _. P)) (λ _. tt)) ks.0, (stay_dropped (plain (λ _. B)) ks.1.0, (stay_dropped (plain (λ _. usize)) ks.1.1.0, (stay_dropped (plain (λ _. C)) ks.1.1.1.0, (stay_dropped (plain (λ _. Deed)) ks.1.1.1.1.0, tt))))) in
     let W = walk_of 𝓛 E hs c in let 𝓣 = tables 𝓤 H 𝓜 𝓡 𝓡.env in
-    proved 𝓛 E hs c 𝓜 𝓡
-    (Goes-dropped 𝓛 2 (RefOf (0 ∷ []) tt (plain (λ _. P)) (λ _. tt)) ks.0 (λ κs x w. refl), (Goes-dropped 𝓛 2 (plain (λ _. B)) ks.1.0 (λ κs x w. refl), (Goes-dropped 𝓛 2 (plain (λ _. usize)) ks.1.1.0 (λ κs x w. refl),
-    (Goes-blank 𝓛 2 (plain (λ _. C)) ks.1.1.1.0 (λ κs x w. tt), (Goes-blank 𝓛 2 (plain (λ _. Deed)) ks.1.1.1.1.0 (λ κs x w. tt), tt)))))
+    proved 𝓛 E hs c 𝓜 𝓡 (
+      Goes-dropped 𝓛 2 (RefOf (0 ∷ []) tt (plain (λ _. P)) (λ _. tt)) ks.0 (λ κs x w. refl),
+      (
+        Goes-dropped 𝓛 2 (plain (λ _. B)) ks.1.0 (λ κs x w. refl),
+        (
+          Goes-dropped 𝓛 2 (plain (λ _. usize)) ks.1.1.0 (λ κs x w. refl),
+          (Goes-blank 𝓛 2 (plain (λ _. C)) ks.1.1.1.0 (λ κs x w. tt), (Goes-blank 𝓛 2 (plain (λ _. Deed)) ks.1.1.1.1.0 (λ κs x w. tt), tt)),
+        ),
+      ),
+    )
     (f.Key.name args) fn (code.unfolded 𝓤 H 𝓜 𝓡 wired (A, tt) d dd)
     (λ κs. (shr_vals, (base_vals, (uint_vals w64, ((λ x. mark ∷ []), ((λ x. mark ∷ []), tt))))))
     (λ κs. (shr_Tells (named 0) κs.0 P, (base_Tells, (uint_Tells w64, ((λ x vs is. mark_told vs is.0), ((λ x vs is. mark_told vs is.0), tt)))))) (λ κs qs bounds a _ are.
@@ -62,7 +69,7 @@ deallocate_spec 𝓤 𝓛 𝓜 𝓡 wired A L g d dd met md =
     -- [the room; the right to free it; the allocator, for reading; its token; the other tokens; ..]
     group ! 4 $ use1 𝓛 (raw ((Gives Y 𝓛 𝓜.mem 𝓡.returns).pre z)) (Gives-goes Y 𝓛 𝓜.mem 𝓡.returns κ q at h (⊑_trans κ κs.1.0 A.lives bounds.0 le) b o len 1 τ (capped_is (len * 1) (omega arith) ∙ omega arith) refl fits_len (lit< tt)) $
     first ! $ blocks ! $
-    calls_at_last ! (fm 𝓛 𝓜 𝓡) (Gives Y 𝓛 𝓜.mem 𝓡.returns) (met.deallocate dd) z (and_then ! (get ! refl) (and_then ! (get_in ! (fld ! refl (stop !)) (sub ! 0 refl (whole !))) (and_then ! (get ! refl) (and_then ! (lit ! tt) (no_more !))))) (λ v.
+    calls_at_last ! (framed 𝓤 H 𝓜 𝓣) (Gives Y 𝓛 𝓜.mem 𝓡.returns) (met.deallocate dd) z (and_then ! (get ! refl) (and_then ! (get_in ! (fld ! refl (stop !)) (sub ! 0 refl (whole !))) (and_then ! (get ! refl) (and_then ! (lit ! tt) (no_more !))))) (λ v.
     use1 𝓛 (later (given (v ≡ vunit) (‵ (flft κ q)))) (Gives-Gives Y 𝓛 𝓜.mem 𝓡.returns κ q at h b o len 1 τ v) $ await ! tt $ learn ! (λ returned.
     lands_last ! refl (subst (λ (u : Val). T (has_ty ty_unit u) × WT u) (sym returned) (tt, tt)) $
     exec ! 𝓣.C 𝓣.Λ En (after 1 fn.body) (at_ret En Post) $ sets ! (of_opd ! (unit_lit !)) refl (tt, tt) $

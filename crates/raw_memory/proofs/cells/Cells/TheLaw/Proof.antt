@@ -3,7 +3,7 @@ use denote.RawPtr.{RawPtr}
 use denote.Param.Shared.{copy_shared}
 use denote.Struct.Laws.{field_copy}
 use denote.Struct.Lending.{of_Lends}
-use Rattle.core.specs.contracts.marker.PhantomData as marker
+use Rattle.std.specs.contracts.marker.PhantomData as marker
 use Rattle.raw_memory.specs.contracts.cells.Cells as C
 use Rattle.raw_memory.proofs.cells.Cells.TheLaw.Statement.{statement}
 use Rattle.raw_memory.proofs.Reading.{cells_lent_laws, Lends-cells}

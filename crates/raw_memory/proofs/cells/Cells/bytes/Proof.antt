@@ -1,5 +1,5 @@
 -- `bytes` makes a slice of the pointer and the length, over what a reader of the block sees.
-use Rattle.raw_memory.proofs.Steps.{◌≡◌, ℕ, ◌*◌, ◌^◌, ◌<◌, List, [], ◌∷◌, length, refl, sym, ap, ◌∙◌, arith, w64, proved, after, full_share, never, id⊢, ftrue, fat, flft, named, Val, vint, fact, tables, ‵, raw, ◌⊛◌, at_ret, ◌$◌, ◌∵◌, !, qed, done, move, keep, drop, split, join, fsplit, fjoin, feq_i, flt_i, flt_l, rewrite, suffices, frame, enter, of_opd, stop, fld, no_more, and_then, first, blocks, exec, returns, alloc_all, pass_all, free_all, look_at, get, get_in, sets, sets_last, take_at, give_at, env, usize, RefOf, yes, whole, sub, agg, lone, uint_vals, uint_Tells, owns, Ptr, block_ptr, in_a_block, Bor, ShrRef, shr_vals, shr_Tells, hide, unhide, slice_val, plain, nothing, heard, Stays, walk_of, says, stay_dropped, Goes-dropped, ends_at}
+use Rattle.raw_memory.proofs.Steps.{◌≡◌, ℕ, ◌*◌, ◌^◌, ◌<◌, List, [], ◌∷◌, length, refl, sym, ap, ◌∙◌, arith, w64, proved, after, full_share, never, id⊢, ftrue, fat, flft, named, Val, fact, tables, ‵, raw, ◌⊛◌, at_ret, ◌$◌, ◌∵◌, !, qed, done, move, keep, drop, split, join, fsplit, fjoin, feq_i, flt_i, flt_l, rewrite, suffices, frame, enter, of_opd, stop, fld, no_more, and_then, first, blocks, exec, returns, alloc_all, pass_all, free_all, look_at, get, get_in, sets, sets_last, take_at, give_at, env, usize, RefOf, yes, whole, sub, agg, lone, uint_vals, uint_Tells, owns, Ptr, in_a_block, Bor, ShrRef, shr_vals, shr_Tells, hide, unhide, slice_val, plain, nothing, heard, Stays, walk_of, says, stay_dropped, Goes-dropped, ends_at}
 use Rattle.raw_memory.proofs.Words.{word, base_vals, base_Tells, word_typed}
 use Rattle.raw_memory.specs.Ownership.{cells_lent}
 use Rattle.raw_memory.specs.contracts.cells.Base.{the_row as B}

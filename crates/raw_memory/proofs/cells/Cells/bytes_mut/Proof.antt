@@ -1,5 +1,5 @@
 -- `bytes_mut` lends the bytes as a slice, and the block follows what is last in it.
-use Rattle.raw_memory.proofs.Steps.{◌≡◌, ℕ, ◌+◌, ◌*◌, ◌^◌, ◌<◌, List, [], ◌∷◌, length, refl, sym, ap, ◌∙◌, arith, w64, MutBor, proved, after, Ura, full_share, ent, sep, never, id⊢, GName, Fml, ftrue, fsep, fat, froom, flft, named, Val, vint, fact, tables, Logic, sem, cells, ‵, raw, ◌⊛◌, some, later, at_ret, ◌$◌, ◌∵◌, !, qed, done, move, keep, use1, split, join, fsplit, fsplit3, fjoin, fjoin3, fpack, flt_i, flt_l, pick, await, rewrite, suffices, frame, group, enter, of_opd, stop, fld, no_more, and_then, first, blocks, exec, returns, alloc_all, pass_all, free_all, look_at, get, get_in, sets, sets_last, take_at, give_at, is, env, u8, usize, Array, yes, no, follows, Elements, lends_Elements, whole, sub, agg, mem, part_at, cell_at, lone, uint_vals, uint_Tells, owns, Ptr, block_ptr, in_a_block, MutRef, mut_vals, mut_Tells, MutSlice, slice_val, plain, mut_ref_to, nothing, opens, heard, Stays, walk_of, says, stay_dropped, Goes-dropped, Goes-spent_ref, ends_at}
+use Rattle.raw_memory.proofs.Steps.{◌≡◌, ℕ, ◌+◌, ◌*◌, ◌^◌, ◌<◌, List, [], ◌∷◌, length, refl, sym, ap, ◌∙◌, arith, w64, MutBor, proved, after, Ura, full_share, ent, sep, never, id⊢, GName, Fml, ftrue, fsep, fat, froom, flft, named, Val, fact, tables, Logic, sem, cells, ‵, raw, ◌⊛◌, some, later, at_ret, ◌$◌, ◌∵◌, !, qed, done, move, keep, use1, split, join, fsplit, fsplit3, fjoin, fjoin3, fpack, flt_i, flt_l, pick, await, rewrite, suffices, frame, group, enter, of_opd, stop, fld, no_more, and_then, first, blocks, exec, returns, alloc_all, pass_all, free_all, look_at, get, get_in, sets, sets_last, take_at, give_at, is, env, u8, usize, Array, yes, no, follows, Elements, lends_Elements, whole, sub, agg, mem, cell_at, lone, uint_vals, uint_Tells, owns, Ptr, block_ptr, in_a_block, MutRef, mut_vals, mut_Tells, MutSlice, slice_val, plain, mut_ref_to, nothing, opens, heard, Stays, walk_of, says, stay_dropped, Goes-dropped, Goes-spent_ref, ends_at}
 use Rattle.std.proofs.Common.{drop as drop_l}
 use lib.Seq.{take_at as front_is}
 use denote.Memory.{part_of}

@@ -1,5 +1,5 @@
 -- `push` writes the first place of the room, and the byte joins the others.
-use Rattle.raw_memory.proofs.Steps.{◌≡◌, ℕ, suc, ◌+◌, ◌-◌, ◌^◌, ◌<◌, List, [], ◌∷◌, ◌++◌, length, refl, sym, ◌∙◌, arith, length-append, w8, w64, proved, after, full_share, never, id⊢, ftrue, fat, froom, flft, ty_int, named, Val, vunit, vint, fact, tables, cells, ‵, raw, ◌⊛◌, at_ret, ◌$◌, ◌∵◌, !, qed, done, move, keep, use1, use2, split, join, fsplit, fsplit3, fjoin, feq_i, flt_i, flt_l, rewrite, suffices, frame, group, enter, of_opd, unit_lit, bin, init, stop, fld, assigns_last, first, blocks, exec, returns, alloc_all, pass_all, free_all, look_at, get, get_in, through, sets, take_at, give_at, env, u8, usize, yes, whole, sub, mem, part_at, lone, uint_in, uint_vals, uint_Tells, owns, Ptr, block_ptr, in_a_block, MutRef, mut_vals, mut_Tells, plain, nothing, opens, closes, heard, Stays, walk_of, says, stay_dropped, Goes-dropped, stay_ref, Goes-ref, ends_at}
+use Rattle.raw_memory.proofs.Steps.{◌≡◌, ℕ, suc, ◌+◌, ◌-◌, ◌^◌, ◌<◌, [], ◌∷◌, ◌++◌, length, refl, sym, ◌∙◌, arith, length-append, w8, w64, proved, after, full_share, never, id⊢, ftrue, fat, froom, flft, ty_int, named, vunit, fact, tables, cells, ‵, raw, ◌⊛◌, at_ret, ◌$◌, ◌∵◌, !, qed, done, move, keep, use1, use2, split, join, fsplit, fsplit3, fjoin, feq_i, flt_i, flt_l, rewrite, suffices, frame, group, enter, of_opd, unit_lit, bin, init, stop, fld, assigns_last, first, blocks, exec, returns, alloc_all, pass_all, free_all, look_at, get, get_in, through, sets, take_at, give_at, env, u8, usize, yes, whole, sub, mem, part_at, lone, uint_in, uint_vals, uint_Tells, owns, Ptr, in_a_block, MutRef, mut_vals, mut_Tells, plain, nothing, opens, closes, heard, Stays, walk_of, says, stay_dropped, Goes-dropped, stay_ref, Goes-ref, ends_at}
 use Rattle.raw_memory.proofs.Blocks.{one_more}
 use Rattle.raw_memory.proofs.Words.{word, base_vals, base_Tells, word_typed}
 use Rattle.raw_memory.specs.Ownership.{places, cells_own}

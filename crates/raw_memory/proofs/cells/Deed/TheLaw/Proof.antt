@@ -6,8 +6,8 @@ use denote.Param.Shared.{copy_shared}
 use denote.SharingLaws.{nothing_shr_laws}
 use denote.Struct.Laws.{field_copy}
 use denote.Struct.Lending.{of_Lends, Lends-nothing}
-use Rattle.core.specs.declared.alloc.Allocator.{Ghosts}
-use Rattle.core.specs.contracts.marker.PhantomData as marker
+use Rattle.std.specs.declared.alloc.Allocator.{Ghosts}
+use Rattle.std.specs.contracts.marker.PhantomData as marker
 use Rattle.raw_memory.specs.contracts.cells.Deed as D
 use Rattle.raw_memory.proofs.cells.Deed.TheLaw.Statement.{statement}
 
