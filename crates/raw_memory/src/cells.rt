@@ -51,7 +51,8 @@ pub(crate) fn allocate<A: Allocator>(
     len: usize,
 ) -> Result<(Base, Cells, Deed<A>), AllocError>
     requires { len < 2 ^ 63 }
-    ensures { IfOk result (λ r. (r.1.at ≡ r.0.ptr) × (r.1.bytes ≡ []) × (r.1.spare ≡ len) × (r.2.at ≡ r.0.ptr) × (r.2.len ≡ len) × (r.2.alloc ≡ alloc.now)) }
+    ensures { IfOk result (λ r. (r.1.at ≡ r.0.ptr) × (r.1.bytes ≡ []) × (r.1.spare ≡ len)
+        × (r.2.at ≡ r.0.ptr) × (r.2.len ≡ len) × (r.2.alloc ≡ alloc.now)) }
 {
     match alloc.allocate(len, 1) {
         Ok(ptr) => Ok((
@@ -71,7 +72,8 @@ pub(crate) fn deallocate<A: Allocator>(
     cells: Cells,
     deed: Deed<A>,
 )
-    requires { (cells.at ≡ base.ptr) × (length cells.bytes ≡ len) × (deed.at ≡ base.ptr) × (deed.len ≡ len) × (deed.alloc ≡ alloc.now) }
+    requires { (cells.at ≡ base.ptr) × (length cells.bytes ≡ len)
+        × (deed.at ≡ base.ptr) × (deed.len ≡ len) × (deed.alloc ≡ alloc.now) }
 {
     let Cells { mark: _ } = cells;
     let Deed { mark: _ } = deed;
@@ -86,7 +88,8 @@ impl Cells {
     /// Writes one byte into the room behind the others.
     pub(crate) fn push(&mut self, base: Base, len: usize, byte: u8)
         requires { (base.ptr ≡ self.old.at) × (length self.old.bytes ≡ len) × (0 < self.old.spare) }
-        ensures { (self.new.at ≡ self.old.at) × (self.new.bytes ≡ self.old.bytes ++ byte ∷ []) × (self.new.spare + 1 ≡ self.old.spare) }
+        ensures { (self.new.at ≡ self.old.at) × (self.new.bytes ≡ self.old.bytes ++ byte ∷ [])
+            × (self.new.spare + 1 ≡ self.old.spare) }
     {
         unsafe { base.ptr.add(len).write(byte) }
     }

@@ -30,7 +30,9 @@ impl Model for RawMem {
 
     ghost view = { λ m. m.cells.bytes };
 
-    ghost invariant = { λ m. (m.base.ptr ≡ m.cells.at) × (length m.cells.bytes ≡ m.len) × (m.deed.at ≡ m.base.ptr) × (m.deed.len ≡ m.len) × (m.deed.alloc ≡ m.alloc) × IsMemorySize m.len };
+    ghost invariant = { λ m. (m.base.ptr ≡ m.cells.at) × (length m.cells.bytes ≡ m.len)
+        × (m.deed.at ≡ m.base.ptr) × (m.deed.len ≡ m.len) × (m.deed.alloc ≡ m.alloc)
+        × IsMemorySize m.len };
 }
 
 impl Drop for RawMem {
@@ -78,7 +80,7 @@ impl RawMem {
         })
     }
 
-    /// Appends `pages` pages of zeros (4.5.3.9, growing memories). The bytes move to a new block, and the
+    /// Appends `pages` pages of zeros (4.5.3, growing memories). The bytes move to a new block, and the
     /// old one is given back. Where there is no memory for the new one, nothing changes.
     pub fn grow(&mut self, alloc: Global, pages: u32) -> Result<(), AllocError>
         requires { length self.old + pages * page_size ≤ most_pages * page_size }
@@ -109,8 +111,10 @@ impl RawMem {
     fn has(&self, at: u64, len: u64) -> bool
         ensures { IsTrue result ↔ InRange self.now at len }
     {
-        let end = self.len as u64;
-        at <= end && len <= end - at
+        match at.checked_add(len) {
+            Some(end) => end <= self.len as u64,
+            None => false,
+        }
     }
 
     /// All the bytes.
@@ -124,7 +128,8 @@ impl RawMem {
     /// All the bytes, to be written.
     #[inline]
     fn bytes_mut(&mut self) -> &mut [u8]
-        ensures* writes_back { sem 𝓛 (Lends the_row (Array byte_row 0) self.entry result (λ ws. refill (length self.entry.now) self.entry.now ws)) }
+        ensures* writes_back { sem 𝓛 (Lends the_row (Array byte_row 0) self.entry result
+            (λ ws. refill (length self.entry.now) self.entry.now ws)) }
         ensures value { result.now ≡ self.old }
         ensures same_len { (ws : List ℕ) → length ws ≡ length self.old → refill (length self.old) self.old ws ≡ ws }
     {
