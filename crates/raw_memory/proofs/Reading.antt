@@ -19,13 +19,13 @@ use denote.Sharing.{ShrLaws, said}
 use denote.SharingLaws.{beside_shr_laws, said_shr_laws}
 use denote.Slice.{elements_shared, elements_shr_laws}
 use denote.Struct.Lending.{Lends, Lends-both, Lends-first, Lends-nothing, Lends-said, Lends-false}
-use Rattle.raw_memory.specs.Ownership.{places, fits, cells_own, cells_lent}
+use Rattle.raw_memory.specs.Ownership.{places, fits, bytes_owned, bytes_lent}
 
 -- readers may be many, and each may stop early
-pub cells_lent_laws : (p : Ptr) (bytes : List ℕ) (spare : ℕ) → ShrLaws (cells_lent p bytes spare)
-cells_lent_laws (block_ptr b o) bytes spare =
+pub bytes_lent_laws : (p : Ptr) (bytes : List ℕ) (spare : ℕ) → ShrLaws (bytes_lent p bytes spare)
+bytes_lent_laws (block_ptr b o) bytes spare =
     beside_shr_laws (said (fits bytes spare)) (elements_shared u8 bytes b o) (said_shr_laws (fits bytes spare) tt) (elements_shr_laws u8 (uint_row_laws w8) bytes b o)
-cells_lent_laws null_ptr bytes spare = said_shr_laws ffalse tt
+bytes_lent_laws null_ptr bytes spare = said_shr_laws ffalse tt
 
 module _ {M : Type 1} {𝓤 : Ura M} (𝓛 : Logic 𝓤) (l : Lft) where
   each_byte : (bytes : List ℕ) (b o : ℕ) → Lends 𝓛 (cells (mem u8) bytes b o) (elements_shared u8 bytes b o) l
@@ -34,9 +34,9 @@ module _ {M : Type 1} {𝓤 : Ura M} (𝓛 : Logic 𝓤) (l : Lft) where
       Lends-both 𝓛 (part_at u8 full_share x b o) (cells (mem u8) xs b (o + 1)) (shared_of u8 x b o) (elements_shared u8 xs b (o + 1)) l
       (λ κ ts within. (copy_shared u8-field u8-copy).shares M 𝓤 𝓛 x κ ts b o (⊑_static (span ts))) (each_byte xs b (o + 1))
 
-  pub Lends-cells : (p : Ptr) (bytes : List ℕ) (spare : ℕ) → Lends 𝓛 (cells_own p bytes spare) (cells_lent p bytes spare) l
-  Lends-cells (block_ptr b o) bytes spare =
+  pub Lends-bytes : (p : Ptr) (bytes : List ℕ) (spare : ℕ) → Lends 𝓛 (bytes_owned p bytes spare) (bytes_lent p bytes spare) l
+  Lends-bytes (block_ptr b o) bytes spare =
       let own = cells (mem u8) bytes b o in let room = froom (places spare) b (length bytes + o) in
       Lends-both 𝓛 (fits bytes spare) (fsep own room) (said (fits bytes spare)) (elements_shared u8 bytes b o) l (Lends-said 𝓛 (fits bytes spare) tt l)
       (Lends-first 𝓛 own room (elements_shared u8 bytes b o) l (each_byte bytes b o))
-  Lends-cells null_ptr bytes spare = Lends-false 𝓛 (said ffalse) l
+  Lends-bytes null_ptr bytes spare = Lends-false 𝓛 (said ffalse) l

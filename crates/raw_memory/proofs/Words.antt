@@ -16,25 +16,25 @@ use denote.Steps.{nothing}
 use denote.Struct.Declared.{shape}
 use denote.Struct.Struct.{Struct, within}
 use denote.Struct.Tuple.{Tuple, tuple_type}
-use Rattle.raw_memory.specs.contracts.cells.Base.{the_row as Base}
+use Rattle.raw_memory.specs.contracts.block.BlockStart.{the_row as BlockStart}
 
 -- a struct of one pointer
 abbrev pub word : Ptr → Val
 word p = vstruct (vcons (ptr_val p) vnil)
 
-abbrev pub base_vals : Base.Denot → List Val
-base_vals base = word base.ptr ∷ []
+abbrev pub start_vals : BlockStart.Denot → List Val
+start_vals start = word start.ptr ∷ []
 
-pub base_Tells : Tells Base (Is Base) base_vals
-base_Tells base vs is = is.1.0 ∙ (λ i. vstruct (of_list (is.1.1.0 i ++ [])) ∷ [])
+pub start_Tells : Tells BlockStart (Is BlockStart) start_vals
+start_Tells start vs is = is.1.0 ∙ (λ i. vstruct (of_list (is.1.1.0 i ++ [])) ∷ [])
 
 -- it is a value of its type
 pub word_typed : (p : Ptr) → T (has_ty (ty_struct [] (tcons ty_ptr tnil)) (word p)) × WT (word p)
 word_typed (block_ptr b o) = (tt, (tt, tt))
 word_typed null_ptr = (tt, (record { fits = lit< tt }, tt))
 
-pub base_made : {M : Type 1} {𝓤 : Ura M} (𝓛 : Logic 𝓤) (base : Base.Denot) → ent 𝓤 (emp 𝓤) (sem 𝓛 (Base.own_val base (word base.ptr ∷ [])))
-base_made 𝓛 base = makes_shadow 𝓛 (Base.own_val base (word base.ptr ∷ [])) (λ _. (tt, (tt, tt))) ((ptr_val base.ptr ∷ [], tt), (refl, (refl, tt)))
+pub start_made : {M : Type 1} {𝓤 : Ura M} (𝓛 : Logic 𝓤) (start : BlockStart.Denot) → ent 𝓤 (emp 𝓤) (sem 𝓛 (BlockStart.own_val start (word start.ptr ∷ [])))
+start_made 𝓛 start = makes_shadow 𝓛 (BlockStart.own_val start (word start.ptr ∷ [])) (λ _. (tt, (tt, tt))) ((ptr_val start.ptr ∷ [], tt), (refl, (refl, tt)))
 
 -- a struct whose one field is a marker
 abbrev unnamed : List RattleType → RattleType

@@ -18,15 +18,15 @@ abbrev pub fits : List ℕ → ℕ → Fml
 fits bytes spare = flt (length bytes + spare) (2 ^ 63)
 
 -- the bytes lie at p, and behind them is room for as many as are spare
-abbrev pub cells_own : Ptr → List ℕ → ℕ → Fml
-cells_own (block_ptr b o) bytes spare = fsep (fits bytes spare) (fsep (cells (mem u8) bytes b o) (froom (places spare) b (length bytes + o)))
-cells_own null_ptr bytes spare = ffalse
+abbrev pub bytes_owned : Ptr → List ℕ → ℕ → Fml
+bytes_owned (block_ptr b o) bytes spare = fsep (fits bytes spare) (fsep (cells (mem u8) bytes b o) (froom (places spare) b (length bytes + o)))
+bytes_owned null_ptr bytes spare = ffalse
 
 -- a reader sees the bytes alone
-abbrev pub cells_lent : Ptr → List ℕ → ℕ → Lft → Fml
-cells_lent (block_ptr b o) bytes spare = beside (said (fits bytes spare)) (elements_shared u8 bytes b o)
-cells_lent null_ptr bytes spare = said ffalse
+abbrev pub bytes_lent : Ptr → List ℕ → ℕ → Lft → Fml
+bytes_lent (block_ptr b o) bytes spare = beside (said (fits bytes spare)) (elements_shared u8 bytes b o)
+bytes_lent null_ptr bytes spare = said ffalse
 
 -- the allocator's token for the block of n places at p
-abbrev pub deed_owns : (Ty → Ptr → Fml) → Ptr → ℕ → Fml
-deed_owns token p n = token (places n) p
+abbrev pub right_owned : (Ty → Ptr → Fml) → Ptr → ℕ → Fml
+right_owned token p n = token (places n) p

@@ -4,7 +4,7 @@
 //! is read, written and grown. Contracts see it as that list. Pointers stay within five small functions.
 #![tactic(auto)]
 
-mod cells;
+mod block;
 mod raw_mem;
 
 pub use raw_mem::RawMem;

@@ -1,8 +1,8 @@
-//! A linear memory as a list of bytes. All of it is safe code over the edge in `cells`.
+//! A linear memory as a list of bytes. All of it is safe code over the edge in `block`.
 ghost use Rattle.std.specs.Prelude.{◌≡◌, ◌+◌, ◌<◌, ◌≤◌, ◌^◌, [], length, replicate};
 ghost use Rattle.raw_memory.specs.Bytes.{zeros, run, replaced, IsWidth, number, low_bytes};
 
-use crate::cells::{Base, Cells, Deed, allocate, deallocate};
+use crate::block::{BlockBytes, BlockStart, FreeRight, free_block, take_block};
 use std::alloc::{AllocError, Global};
 use std::marker::Model;
 use std::mem;
@@ -15,10 +15,10 @@ const PAGE_SIZE: usize = 65536;
 /// Contracts see it as the list of its bytes. It is always a whole number of pages long (WebAssembly
 /// Core 2.0, 4.2.8). Dropping it gives the block back.
 pub struct RawMem {
-    base: Base,
+    start: BlockStart,
     len: usize,
-    cells: Cells,
-    deed: Deed<Global>,
+    contents: BlockBytes,
+    right: FreeRight<Global>,
     alloc: Global,
 }
 
@@ -28,23 +28,23 @@ impl Model for RawMem {
 
     ghost Value = { List ℕ };
 
-    ghost view = { λ m. m.cells.bytes };
+    ghost view = { λ m. m.contents.bytes };
 
-    ghost invariant = { λ m. (m.base.ptr ≡ m.cells.at) × (length m.cells.bytes ≡ m.len)
-        × (m.deed.at ≡ m.base.ptr) × (m.deed.len ≡ m.len) × (m.deed.alloc ≡ m.alloc)
+    ghost invariant = { λ m. (m.start.ptr ≡ m.contents.at) × (length m.contents.bytes ≡ m.len)
+        × (m.right.at ≡ m.start.ptr) × (m.right.len ≡ m.len) × (m.right.alloc ≡ m.alloc)
         × IsMemorySize m.len };
 }
 
 impl Drop for RawMem {
     fn drop(self) {
         let RawMem {
-            base,
+            start,
             len,
-            cells,
-            deed,
+            contents,
+            right,
             alloc,
         } = self;
-        deallocate(&alloc, base, len, cells, deed);
+        free_block(&alloc, start, len, contents, right);
     }
 }
 
@@ -69,13 +69,13 @@ impl RawMem {
         requires { IsMemorySize len }
         ensures { IfOk result (λ m. m ≡ zeros len) }
     {
-        let (base, mut cells, deed) = allocate(&alloc, len)?;
-        clear(&mut cells, base, len);
+        let (start, mut contents, right) = take_block(&alloc, len)?;
+        clear(&mut contents, start, len);
         Ok(RawMem {
-            base,
+            start,
             len,
-            cells,
-            deed,
+            contents,
+            right,
             alloc,
         })
     }
@@ -122,7 +122,7 @@ impl RawMem {
     fn bytes(&self) -> &[u8]
         ensures { result.now ≡ self.now }
     {
-        self.cells.bytes(self.base, self.len)
+        self.contents.bytes(self.start, self.len)
     }
 
     /// All the bytes, to be written.
@@ -133,8 +133,8 @@ impl RawMem {
         ensures value { result.now ≡ self.old }
         ensures same_len { (ws : List ℕ) → length ws ≡ length self.old → refill (length self.old) self.old ws ≡ ws }
     {
-        let (base, len) = (self.base, self.len);
-        self.cells.bytes_mut(base, len)
+        let (start, len) = (self.start, self.len);
+        self.contents.bytes_mut(start, len)
     }
 
     /// Lends the `len` bytes from `from` on, without copying them.
@@ -228,12 +228,12 @@ impl RawMem {
 }
 
 /// Writes zeros into all the room of a new block.
-fn clear(cells: &mut Cells, base: Base, len: usize)
-    requires { (base.ptr ≡ cells.old.at) × (cells.old.bytes ≡ []) × (cells.old.spare ≡ len) }
-    ensures { (cells.new.at ≡ cells.old.at) × (cells.new.bytes ≡ zeros len) }
+fn clear(contents: &mut BlockBytes, start: BlockStart, len: usize)
+    requires { (start.ptr ≡ contents.old.at) × (contents.old.bytes ≡ []) × (contents.old.spare ≡ len) }
+    ensures { (contents.new.at ≡ contents.old.at) × (contents.new.bytes ≡ zeros len) }
 {
     for i in 0..len {
-        cells.push(base, i, 0);
+        contents.push(start, i, 0);
     }
 }
 

@@ -6,15 +6,15 @@ use denote.Memory.{part_of}
 use denote.Struct.Owning.{shape}
 use denote.Struct.Struct.{Struct}
 use Rattle.std.specs.List.{refill}
-use Rattle.raw_memory.proofs.Words.{word, base_vals, base_Tells, word_typed}
-use Rattle.raw_memory.specs.Ownership.{places, cells_own}
+use Rattle.raw_memory.proofs.Words.{word, start_vals, start_Tells, word_typed}
+use Rattle.raw_memory.specs.Ownership.{places, bytes_owned}
 use Rattle.raw_memory.specs.Lending.{with_bytes}
-use Rattle.raw_memory.specs.contracts.cells.Base.{the_row as B}
-use Rattle.raw_memory.specs.contracts.cells.Cells as C
-use Rattle.raw_memory.specs.contracts.cells.Cells.{the_row as R}
-use Rattle.raw_memory.specs.contracts.cells.Cells.bytes_mut as f
-use Rattle.raw_memory.proofs.cells.Cells.bytes_mut.Statement.{statement}
-use Rattle.raw_memory.proofs.cells.Cells.bytes_mut.Code as code
+use Rattle.raw_memory.specs.contracts.block.BlockStart.{the_row as B}
+use Rattle.raw_memory.specs.contracts.block.BlockBytes as C
+use Rattle.raw_memory.specs.contracts.block.BlockBytes.{the_row as R}
+use Rattle.raw_memory.specs.contracts.block.BlockBytes.bytes_mut as f
+use Rattle.raw_memory.proofs.block.BlockBytes.bytes_mut.Statement.{statement}
+use Rattle.raw_memory.proofs.block.BlockBytes.bytes_mut.Code as code
 
 abbrev stayed : Stays f.ended.signature.params f.ended.kept
 stayed = (stay_dropped (mut_ref_to (0 ∷ []) tt (plain (λ _. R))) no, (stay_dropped (plain (λ _. B)) yes, (stay_dropped (plain (λ _. usize)) yes, tt)))
@@ -39,7 +39,7 @@ module _ {M : Type 1} {𝓤 : Ura M} (𝓛 : Logic 𝓤) (rb ro b o : ℕ) (h : 
       rewrite ! 0 (λ (l : List ℕ). ‵ (cells (mem u8) l b o)) (sym all) refl $
       rewrite ! 1 (λ (k : ℕ). ‵ (froom (places h.spare) b (k + o))) long refl $ fjoin ! $
       flt_i ! (length (last h ws).bytes + h.spare) (2 ^ 63) (omega (arith, long)) $ fjoin ! $
-      rewrite ! 0 (λ (p : Ptr). ‵ (cells_own p (last h ws).bytes h.spare)) (sym e) refl $ move ! (1 ∷ 0 ∷ []) $ fjoin ! $ move ! (1 ∷ 0 ∷ []) $ fjoin ! $
+      rewrite ! 0 (λ (p : Ptr). ‵ (bytes_owned p (last h ws).bytes h.spare)) (sym e) refl $ move ! (1 ∷ 0 ∷ []) $ fjoin ! $ move ! (1 ∷ 0 ∷ []) $ fjoin ! $
       fpack ! (List Val) (λ vs. fsep (cell_at full_share R.mir vs rb ro) (R.own_val (last h ws) vs)) us $ done !
 
 pub bytes_mut_spec : {M : Type 1} → statement M
@@ -48,19 +48,19 @@ bytes_mut_spec 𝓤 𝓛 𝓜 𝓡 wired =
     proved 𝓛 f.ended stayed c 𝓜 𝓡
     (Goes-spent_ref 𝓛 1 (0 ∷ []) tt (plain (λ _. R)), (Goes-dropped 𝓛 1 (plain (λ _. B)) yes (λ κs x w. refl), (Goes-dropped 𝓛 1 (plain (λ _. usize)) yes (λ κs x w. refl), tt)))
     f.Key.name code.function (code.unfolded 𝓤 𝓛.H 𝓜 𝓡 wired)
-    (λ κs. (mut_vals, (base_vals, (uint_vals w64, tt))))
-    (λ κs. (mut_Tells (named 0) κs.0 R, (base_Tells, (uint_Tells w64, tt)))) (λ κs qs bounds a _ are.
+    (λ κs. (mut_vals, (start_vals, (uint_vals w64, tt))))
+    (λ κs. (mut_Tells (named 0) κs.0 R, (start_Tells, (uint_Tells w64, tt)))) (λ κs qs bounds a _ are.
     let κ = κs.0 in let q = qs.0 in
-    let rb = a.0.ref_ptr.0 in let ro = a.0.ref_ptr.1 in let h = a.0.now in let γ = a.0.ghost_name in let base = a.1.0 in let len = a.1.1.0 in let bytes = h.bytes in
+    let rb = a.0.ref_ptr.0 in let ro = a.0.ref_ptr.1 in let h = a.0.now in let γ = a.0.ghost_name in let start = a.1.0 in let len = a.1.1.0 in let bytes = h.bytes in
     let fits_len : len < 2 ^ 64 = are.1.1.0.1 in
-    let y : W.Ghost = ((κs, qs, bounds, a, (mut_vals a.0, (base_vals base, (uint_vals w64 len, tt)))), tt) in
-    let Asked : Type 0 = (base.ptr ≡ h.at) × (length bytes ≡ len) in
+    let y : W.Ghost = ((κs, qs, bounds, a, (mut_vals a.0, (start_vals start, (uint_vals w64 len, tt)))), tt) in
+    let Asked : Type 0 = (start.ptr ≡ h.at) × (length bytes ≡ len) in
     qed 𝓛 (((‵ (flft κ q) ⊛ ‵ ftrue) ⊛ ‵ (owns (MutRef (named 0) κ R ∷ B ∷ usize ∷ []) a y.0.4)) ∷ raw (fact 𝓤 Asked) ∷ []) ∵
     move ! (1 ∷ []) $ heard ! Asked (λ asked. split ! $ split ! $ move ! (2 ∷ []) $ fsplit ! $ keep ! (0 ∷ 2 ∷ []) $
-    enter ! _ _ _ _ _ $ alloc_all ! (λ l. pass_all ! refl ((tt, tt), (word_typed base.ptr, ((tt, record { fits = fits_len }), tt))) $
+    enter ! _ _ _ _ _ $ alloc_all ! (λ l. pass_all ! refl ((tt, tt), (word_typed start.ptr, ((tt, record { fits = fits_len }), tt))) $
     fsplit3 ! $ move ! (1 ∷ 2 ∷ 3 ∷ []) $ opens ! tt R rb ro (λ us.
     move ! (1 ∷ []) $ fsplit ! $ move ! (1 ∷ []) $
-    in_a_block ! h.at (λ p. cells_own p bytes h.spare) (id⊢ 𝓤 (never 𝓤)) (λ b o e. fsplit ! $ flt_l ! (λ small. fsplit ! $
+    in_a_block ! h.at (λ p. bytes_owned p bytes h.spare) (id⊢ 𝓤 (never 𝓤)) (λ b o e. fsplit ! $ flt_l ! (λ small. fsplit ! $
     -- [the bytes; the room; what the fields own; the struct's cell; the open borrow, in three entries; ..]
     take_at ! 2 $ rewrite ! 0 (λ (p : Ptr). ‵ (fat full_share (lone B.mir) (l 2) 0 (word p))) (asked.0 ∙ e) refl $ give_at ! 2 $
     let v : Val = slice_val (b, o) (length bytes) in let roomy : length bytes < 2 ^ 64 = omega arith in let fitting : length bytes * 1 < 2 ^ 63 = omega arith in

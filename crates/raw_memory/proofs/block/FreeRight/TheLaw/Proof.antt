@@ -8,8 +8,8 @@ use denote.Struct.Laws.{field_copy}
 use denote.Struct.Lending.{of_Lends, Lends-nothing}
 use Rattle.std.specs.declared.alloc.Allocator.{Ghosts}
 use Rattle.std.specs.contracts.marker.PhantomData as marker
-use Rattle.raw_memory.specs.contracts.cells.Deed as D
-use Rattle.raw_memory.proofs.cells.Deed.TheLaw.Statement.{statement}
+use Rattle.raw_memory.specs.contracts.block.FreeRight as D
+use Rattle.raw_memory.proofs.block.FreeRight.TheLaw.Statement.{statement}
 
 pub shares : (A : RattleType) (g : Ghosts A.Denot) (L : Laws A) → statement A g L
 shares A g L =

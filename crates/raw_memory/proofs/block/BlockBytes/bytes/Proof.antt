@@ -1,12 +1,12 @@
 -- `bytes` makes a slice of the pointer and the length, over what a reader of the block sees.
 use Rattle.raw_memory.proofs.Steps.{◌≡◌, ℕ, ◌*◌, ◌^◌, ◌<◌, List, [], ◌∷◌, length, refl, sym, ap, ◌∙◌, arith, w64, proved, after, full_share, never, id⊢, ftrue, fat, flft, named, Val, fact, tables, ‵, raw, ◌⊛◌, at_ret, ◌$◌, ◌∵◌, !, qed, done, move, keep, drop, split, join, fsplit, fjoin, feq_i, flt_i, flt_l, rewrite, suffices, frame, enter, of_opd, stop, fld, no_more, and_then, first, blocks, exec, returns, alloc_all, pass_all, free_all, look_at, get, get_in, sets, sets_last, take_at, give_at, env, usize, RefOf, yes, whole, sub, agg, lone, uint_vals, uint_Tells, owns, Ptr, in_a_block, Bor, ShrRef, shr_vals, shr_Tells, hide, unhide, slice_val, plain, nothing, heard, Stays, walk_of, says, stay_dropped, Goes-dropped, ends_at}
-use Rattle.raw_memory.proofs.Words.{word, base_vals, base_Tells, word_typed}
-use Rattle.raw_memory.specs.Ownership.{cells_lent}
-use Rattle.raw_memory.specs.contracts.cells.Base.{the_row as B}
-use Rattle.raw_memory.specs.contracts.cells.Cells.{the_row as R}
-use Rattle.raw_memory.specs.contracts.cells.Cells.bytes as f
-use Rattle.raw_memory.proofs.cells.Cells.bytes.Statement.{statement}
-use Rattle.raw_memory.proofs.cells.Cells.bytes.Code as code
+use Rattle.raw_memory.proofs.Words.{word, start_vals, start_Tells, word_typed}
+use Rattle.raw_memory.specs.Ownership.{bytes_lent}
+use Rattle.raw_memory.specs.contracts.block.BlockStart.{the_row as B}
+use Rattle.raw_memory.specs.contracts.block.BlockBytes.{the_row as R}
+use Rattle.raw_memory.specs.contracts.block.BlockBytes.bytes as f
+use Rattle.raw_memory.proofs.block.BlockBytes.bytes.Statement.{statement}
+use Rattle.raw_memory.proofs.block.BlockBytes.bytes.Code as code
 
 abbrev stayed : Stays f.ended.signature.params f.ended.kept
 stayed = (stay_dropped (RefOf (0 ∷ []) tt (plain (λ _. R)) (λ _. tt)) yes, (stay_dropped (plain (λ _. B)) yes, (stay_dropped (plain (λ _. usize)) yes, tt)))
@@ -17,18 +17,18 @@ bytes_spec 𝓤 𝓛 𝓜 𝓡 wired =
     proved 𝓛 f.ended stayed c 𝓜 𝓡
     (Goes-dropped 𝓛 1 (RefOf (0 ∷ []) tt (plain (λ _. R)) (λ _. tt)) yes (λ κs x w. refl), (Goes-dropped 𝓛 1 (plain (λ _. B)) yes (λ κs x w. refl), (Goes-dropped 𝓛 1 (plain (λ _. usize)) yes (λ κs x w. refl), tt)))
     f.Key.name code.function (code.unfolded 𝓤 𝓛.H 𝓜 𝓡 wired)
-    (λ κs. (shr_vals, (base_vals, (uint_vals w64, tt))))
-    (λ κs. (shr_Tells (named 0) κs.0 R, (base_Tells, (uint_Tells w64, tt)))) (λ κs qs bounds a _ are.
+    (λ κs. (shr_vals, (start_vals, (uint_vals w64, tt))))
+    (λ κs. (shr_Tells (named 0) κs.0 R, (start_Tells, (uint_Tells w64, tt)))) (λ κs qs bounds a _ are.
     let κ = κs.0 in let q = qs.0 in
-    let h = a.0.now in let base = a.1.0 in let len = a.1.1.0 in let bytes = h.bytes in
+    let h = a.0.now in let start = a.1.0 in let len = a.1.1.0 in let bytes = h.bytes in
     let fits_len : len < 2 ^ 64 = are.1.1.0.1 in
-    let y : W.Ghost = ((κs, qs, bounds, a, (shr_vals a.0, (base_vals base, (uint_vals w64 len, tt)))), tt) in
-    let Asked : Type 0 = (base.ptr ≡ h.at) × (length bytes ≡ len) in
+    let y : W.Ghost = ((κs, qs, bounds, a, (shr_vals a.0, (start_vals start, (uint_vals w64 len, tt)))), tt) in
+    let Asked : Type 0 = (start.ptr ≡ h.at) × (length bytes ≡ len) in
     qed 𝓛 (((‵ (flft κ q) ⊛ ‵ ftrue) ⊛ ‵ (owns (ShrRef (named 0) κ R ∷ B ∷ usize ∷ []) a y.0.4)) ∷ raw (fact 𝓤 Asked) ∷ []) ∵
     move ! (1 ∷ []) $ heard ! Asked (λ asked. split ! $ split ! $ move ! (2 ∷ []) $ fsplit ! $ fsplit ! $ keep ! (1 ∷ 3 ∷ []) $
-    enter ! _ _ _ _ _ $ alloc_all ! (λ l. pass_all ! refl ((tt, tt), (word_typed base.ptr, ((tt, record { fits = fits_len }), tt))) $
+    enter ! _ _ _ _ _ $ alloc_all ! (λ l. pass_all ! refl ((tt, tt), (word_typed start.ptr, ((tt, record { fits = fits_len }), tt))) $
     unhide ! $ fsplit ! $ drop ! $
-    in_a_block ! h.at (λ p. cells_lent p bytes h.spare κ) (id⊢ 𝓤 (never 𝓤)) (λ b o e. fsplit ! $ flt_l ! (λ small. hide ! $
+    in_a_block ! h.at (λ p. bytes_lent p bytes h.spare κ) (id⊢ 𝓤 (never 𝓤)) (λ b o e. fsplit ! $ flt_l ! (λ small. hide ! $
     -- [what a reader sees, hidden; the token; ..]
     take_at ! 2 $ rewrite ! 0 (λ (p : Ptr). ‵ (fat full_share (lone B.mir) (l 2) 0 (word p))) (asked.0 ∙ e) refl $ give_at ! 2 $
     first ! $ blocks ! $

@@ -1,4 +1,4 @@
--- `allocate` cuts the new block into room for bytes and the right to free it.
+-- `take_block` cuts the new block into room for bytes and the right to free it.
 use Rattle.raw_memory.proofs.Steps.{ℕ, ◌+◌, ◌*◌, ◌^◌, ◌<◌, [], ◌∷◌, refl, ◌∙◌, arith, lit<, w64, proved, after, head, arm_body, id⊢, SProp, Lft, Share, ftrue, froom, flft, named, Val, Env, fact, tables, ‵, raw, ◌⊛◌, later, at_ret, ◌$◌, ◌∵◌, !, qed, done, move, keep, use0, use1, use2, use3, split, join, fsplit, fjoin, flt_i, await, rewrite, suffices, frame, enter, of_opd, lit, stop, fld, no_more, and_then, first, switches_on, exec, returns, alloc_all, pass_all, free_all, look_at, get, get_in, get_tag, sets, sets_last, lands_as, env, usize, RefOf, yes, whole, agg, uint_vals, uint_Tells, RattleType, owns, Ptr, block_ptr, ShrRef, shr_vals, shr_Tells, plain, nothing, heard, Stays, walk_of, says, stay_dropped, Goes-dropped, ends_at}
 use mir.Syntax.{Ty, Fn, Args, a_type, dcons, dnil}
 use mir.Val.{vstruct, vcons, vnil}
@@ -21,17 +21,17 @@ use Rattle.std.specs.contracts.alloc.AllocError as AE
 use Rattle.std.specs.contracts.result.Result as RS
 use Rattle.std.proofs.alloc.Calls.{Al, Answer-typed, seen, Takes, at_takes, Answered, Takes-goes, Takes-gives, answers}
 use Rattle.std.proofs.ResultValues.{ok_of, err_of}
-use Rattle.raw_memory.proofs.Words.{word, base_made, mark, mark_own, mark_made, trio, trio_made}
+use Rattle.raw_memory.proofs.Words.{word, start_made, mark, mark_own, mark_made, trio, trio_made}
 use Rattle.raw_memory.specs.Ownership.{places}
-use Rattle.raw_memory.specs.contracts.cells.Base.{the_row as B}
-use Rattle.raw_memory.specs.contracts.cells.Cells.{the_row as C}
-use Rattle.raw_memory.specs.contracts.cells.Deed as D
-use Rattle.raw_memory.specs.contracts.cells.allocate as f
-use Rattle.raw_memory.proofs.cells.allocate.Statement.{statement}
-use Rattle.raw_memory.proofs.cells.allocate.Code as code
+use Rattle.raw_memory.specs.contracts.block.BlockStart.{the_row as B}
+use Rattle.raw_memory.specs.contracts.block.BlockBytes.{the_row as C}
+use Rattle.raw_memory.specs.contracts.block.FreeRight as D
+use Rattle.raw_memory.specs.contracts.block.take_block as f
+use Rattle.raw_memory.proofs.block.take_block.Statement.{statement}
+use Rattle.raw_memory.proofs.block.take_block.Code as code
 
-pub allocate_spec : {M : Type 1} → statement M
-allocate_spec 𝓤 𝓛 𝓜 𝓡 wired A L g d dd met md =
+pub take_block_spec : {M : Type 1} → statement M
+take_block_spec 𝓤 𝓛 𝓜 𝓡 wired A L g d dd met md =
     let H = 𝓛.H in
     let Y : Al = record { row = A; laws = L; g = g; d = d; drops = dd } in
     let P : RattleType = param 0 A in
@@ -51,8 +51,8 @@ allocate_spec 𝓤 𝓛 𝓜 𝓡 wired A L g d dd met md =
     let Post : Val → SProp 𝓤 = W.post y in
     let τ : Ty = places len in
     let z = at_takes Y 𝓛 𝓜.mem 𝓡.returns κ q at h len 1 τ in
-    let Deed : RattleType = D.the_row P g in
-    let Three : RattleType = Tuple (B ∷ C ∷ Deed ∷ []) in
+    let FreeRight : RattleType = D.the_row P g in
+    let Three : RattleType = Tuple (B ∷ C ∷ FreeRight ∷ []) in
     let Out : RattleType = RS.the_row Three AE.the_row in
     let Asked : Type 0 = len < 2 ^ 63 in
     qed 𝓛 (((‵ (flft κ q) ⊛ ‵ (flft κs.1.0 qs.1.0) ⊛ ‵ ftrue) ⊛ ‵ (owns (ShrRef (named 0) κ P ∷ usize ∷ []) a y.0.4)) ∷ (raw (fact 𝓤 (κs.1.0 ⊑ A.lives)) ⊛ raw (fact 𝓤 Asked)) ∷ []) ∵
@@ -68,9 +68,9 @@ allocate_spec 𝓤 𝓛 𝓜 𝓡 wired A L g d dd met md =
     answers Y ! 𝓜.mem 𝓡.returns h τ v
     (λ b o e.
     let p : Ptr = block_ptr b o in
-    let base : B.Denot = record { ptr = p } in
-    let cells : C.Denot = record { mark = record {}; at = p; bytes = []; spare = len } in
-    let deed : Deed.Denot = record { mark = record {}; at = p; len = len; alloc = h } in
+    let start : B.Denot = record { ptr = p } in
+    let contents : C.Denot = record { mark = record {}; at = p; bytes = []; spare = len } in
+    let right : FreeRight.Denot = record { mark = record {}; at = p; len = len; alloc = h } in
     let made : Val = trio (word p) mark mark in
     let out : Val = live 0 (vcons made vnil) in
     -- [the room; the right to free it; the token; the other tokens; ..]
@@ -86,11 +86,11 @@ allocate_spec 𝓤 𝓛 𝓜 𝓡 wired A L g d dd met md =
     move ! (1 ∷ []) $ use0 𝓛 (‵ (mark_own (mark ∷ []))) (mark_made 𝓛) $ fjoin ! $ move ! (1 ∷ []) $
     rewrite ! 0 (λ (k : ℕ). ‵ (froom τ b k)) {x = 0 + o} (omega arith) refl $ nothing ! $ fjoin ! $
     flt_i ! (0 + len) (2 ^ 63) (omega arith) $ fjoin ! $ use0 𝓛 (‵ (mark_own (mark ∷ []))) (mark_made 𝓛) $ fjoin ! $
-    use0 𝓛 (‵ (B.own_val base (word p ∷ []))) (base_made 𝓛 base) $
-    use3 𝓛 (‵ (Three.own_val (base, cells, deed) (made ∷ []))) (trio_made 𝓛 B C Deed base cells deed (word p) mark mark) $
-    use1 𝓛 (‵ (Out.own_val (Ok (base, cells, deed)) (out ∷ []))) (ok_of 𝓛 Three AE.the_row (base, cells, deed) made) $
+    use0 𝓛 (‵ (B.own_val start (word p ∷ []))) (start_made 𝓛 start) $
+    use3 𝓛 (‵ (Three.own_val (start, contents, right) (made ∷ []))) (trio_made 𝓛 B C FreeRight start contents right (word p) mark mark) $
+    use1 𝓛 (‵ (Out.own_val (Ok (start, contents, right)) (out ∷ []))) (ok_of 𝓛 Three AE.the_row (start, contents, right) made) $
     returns ! (look_at ! 0 refl) $ free_all ! refl $
-    suffices ! _ (ends_at 𝓛 E hs c y out (Ok (base, cells, deed)) (tt, (tt, tt)) (tt, (tt, tt))) $ says ! (refl, refl, refl, refl, refl, refl) $
+    suffices ! _ (ends_at 𝓛 E hs c y out (Ok (start, contents, right)) (tt, (tt, tt)) (tt, (tt, tt))) $ says ! (refl, refl, refl, refl, refl, refl) $
     move ! (1 ∷ 2 ∷ []) $ join ! $ frame ! $ nothing ! $ nothing ! $ join ! $ nothing ! $ join ! $ done !)
     (λ e.
     let Refusal : RattleType = Struct (Declared.shape AE.the_type) in
