@@ -1,0 +1,6 @@
+pub mod Blocks
+pub mod Growth
+pub mod Numbers
+pub mod Reading
+pub mod Steps
+pub mod Words

@@ -1,0 +1,4 @@
+pub mod Bytes
+pub mod Cases
+pub mod Ownership
+pub mod Lending
