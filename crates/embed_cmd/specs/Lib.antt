@@ -5,3 +5,6 @@ pub mod Outcome
 pub mod Stops
 pub mod Tasks
 pub mod Runs
+pub mod Words
+pub mod Transcript
+pub mod Headline

@@ -3,8 +3,10 @@
 
 mod end_line;
 mod evaluate;
+mod main_run;
 mod operators;
 mod run;
 mod stop;
 mod transcript;
 mod value;
+mod words;

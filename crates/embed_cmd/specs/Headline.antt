@@ -1,0 +1,73 @@
+-- How the program's run answers the transcript of its command line.
+use Rattle.std.specs.Prelude.{◌≡◌, ℕ, ◌⊎◌, List, ◌++◌, take, Option, Some, None, IsSomeAnd, ◌<◌}
+use Rattle.std.specs.Option.{option_map}
+use Rattle.embed_base.specs.declared.status.Status.{Status}
+use Rattle.embed_base.specs.declared.status.Status.TheVariants as statuses
+use Rattle.embed_base.specs.Counts.{Rose, RoseByMore}
+use Rattle.embed_cmd.specs.declared.transcript.Transcript.{Transcript}
+use Rattle.embed_cmd.specs.Transcript.{Contents, IsTheTranscript, Asks, most_script_bytes}
+
+-- a fact that holds where the status tells the end of the definition's run: no fault and no want of memory came before
+abbrev pub OnEnd : Status → Type 0 → Type 0
+OnEnd statuses.ReadFault P = Unit {0}
+OnEnd statuses.WriteFault P = Unit {0}
+OnEnd statuses.NoMemory P = Unit {0}
+OnEnd _ P = P
+
+-- a fact that holds with one status
+abbrev pub OnReadFault : Status → Type 0 → Type 0
+OnReadFault statuses.ReadFault P = P
+OnReadFault _ P = Unit {0}
+
+abbrev pub OnWriteFault : Status → Type 0 → Type 0
+OnWriteFault statuses.WriteFault P = P
+OnWriteFault _ P = Unit {0}
+
+abbrev pub OnNoMemory : Status → Type 0 → Type 0
+OnNoMemory statuses.NoMemory P = P
+OnNoMemory _ P = Unit {0}
+
+abbrev pub OnUsage : Status → Type 0 → Type 0
+OnUsage statuses.Usage P = P
+OnUsage _ P = Unit {0}
+
+abbrev pub OnTooLongStatus : Status → Type 0 → Type 0
+OnTooLongStatus statuses.TooLong P = P
+OnTooLongStatus _ P = Unit {0}
+
+-- a fact that holds with every status but that of a failed read
+abbrev pub UnlessReadFault : Status → Type 0 → Type 0
+UnlessReadFault statuses.ReadFault P = Unit {0}
+UnlessReadFault _ P = P
+
+-- a fact that holds with every status but that of a failed write
+abbrev pub UnlessWriteFault : Status → Type 0 → Type 0
+UnlessWriteFault statuses.WriteFault P = Unit {0}
+UnlessWriteFault _ P = P
+
+-- what an output holds after some bytes more, where it is told
+abbrev pub with_more : Option (List ℕ) → List ℕ → Option (List ℕ)
+with_more before more = option_map (λ bytes. bytes ++ more) before
+
+-- the transcript was written whole, and the status is its own
+pub record WritesAll (words : List (List ℕ)) (contents : Contents) (status : Status) (before after : Option (List ℕ)) : Type 0 where
+  pub transcript : Transcript
+  pub is : IsTheTranscript words contents transcript
+  pub status_is : status ≡ transcript.status
+  pub written : after ≡ with_more before transcript.text
+
+-- the first bytes of the transcript were written
+pub record WritesPrefix (words : List (List ℕ)) (contents : Contents) (before after : Option (List ℕ)) : Type 0 where
+  pub transcript : Transcript
+  pub is : IsTheTranscript words contents transcript
+  pub size : ℕ
+  pub written : after ≡ with_more before (take size transcript.text)
+
+-- a fault was counted, and what couldn't be read is a path that the command line asks for
+pub record IsReadFault (words : List (List ℕ)) (before after : ℕ) (failed : Option (List ℕ)) : Type 0 where
+  pub rose : Rose before after
+  pub asked : IsSomeAnd failed (Asks words)
+
+-- a content that isn't told was too long by the bytes that were taken
+abbrev pub IsUntoldTooLong : List (List ℕ) → Contents → ℕ → ℕ → Type 0
+IsUntoldTooLong words contents before after = (path : List ℕ) → Asks words path → contents path ≡ None → RoseByMore before after most_script_bytes

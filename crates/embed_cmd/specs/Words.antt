@@ -1,0 +1,13 @@
+-- The command line: the words after the program's name.
+use Rattle.std.specs.Prelude.{◌≡◌, ℕ, List, [], ◌∷◌, Option, Some, None, Bool, true, false, not, ◌&&◌, ◌==◌, codes, if◌then◌else◌}
+use Rattle.std.specs.Str.{bytes_eq}
+
+-- a path is not empty and doesn't begin with `-`
+abbrev pub is_path : List ℕ → Bool
+is_path [] = false
+is_path (c ∷ cs) = not (c == 45)
+
+-- the path of the script that the words ask for: they are `run` and a path
+abbrev pub command_of : List (List ℕ) → Option (List ℕ)
+command_of (word ∷ path ∷ []) = if bytes_eq word (codes "run") && is_path path then Some path else None
+command_of _ = None
