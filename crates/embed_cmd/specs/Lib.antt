@@ -8,3 +8,4 @@ pub mod Runs
 pub mod Words
 pub mod Transcript
 pub mod Headline
+pub mod Reading

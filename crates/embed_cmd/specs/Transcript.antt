@@ -61,3 +61,13 @@ TellsAll words contents = MatchOption (command_of words) (Unit {0}) (λ path. Is
 -- a path that a command line asks for
 abbrev pub Asks : List (List ℕ) → List ℕ → Type 0
 Asks words path = MatchOption (command_of words) ⊥ (λ asked. path ≡ asked)
+
+-- the transcript of a script's bytes, and its only one
+pub record IsTheScriptTranscript (bytes : List ℕ) (t : Transcript) : Type 0 where
+  pub is : IsScriptTranscript bytes t
+  pub only : (u : Transcript) → IsScriptTranscript bytes u → u ≡ t
+
+-- the transcript of a script's file, and its only one
+pub record IsTheFileTranscript (path bytes : List ℕ) (t : Transcript) : Type 0 where
+  pub is : IsFileTranscript path bytes t
+  pub only : (u : Transcript) → IsFileTranscript path bytes u → u ≡ t
