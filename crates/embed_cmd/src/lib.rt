@@ -10,3 +10,4 @@ mod stop;
 mod transcript;
 mod value;
 mod words;
+mod write;
