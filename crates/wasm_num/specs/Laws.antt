@@ -1,0 +1,1 @@
+-- Laws of the integer operations, at every width.
