@@ -15,6 +15,7 @@ use wasm_syntax::Trap;
 
 mod int32;
 mod int64;
+pub mod laws;
 mod num;
 
 /// The result of a binary operation, or the trap that it ends in.
