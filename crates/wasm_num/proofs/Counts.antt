@@ -1,6 +1,6 @@
 -- The counts of digits, in the words of std.
-use Rattle.std.proofs.Common.{◌≡◌, ℕ, zero, suc, ◌+◌, ◌-◌, ◌*◌, ◌/◌, ◌%◌, ◌^◌, ◌<◌, ◌≤◌, cond, true, false, eqb, List, [], ◌∷◌, ◌++◌, refl, sym, ap, ap₂, ◌∙◌, arith, inl, inr, ⊎_elim}
-use Rattle.std.proofs.Math.Nat.{pow-suc, mod-eq_of_lt, div-eq_of_lt}
+use Rattle.std.proofs.Common.{◌≡◌, ℕ, zero, suc, ◌+◌, ◌*◌, ◌/◌, ◌%◌, ◌^◌, ◌<◌, ◌≤◌, cond, eqb, [], ◌∷◌, ◌++◌, refl, sym, ap, ap₂, ◌∙◌, arith, inl, inr}
+use Rattle.std.proofs.Math.Nat.{pow-suc, div-eq_of_lt}
 use Rattle.std.proofs.Math.Numerals.{add-one, one-add}
 use Rattle.std.proofs.lemmas.Bool.{cases_lt}
 use Rattle.std.proofs.lemmas.List.{reverse-append}
@@ -31,17 +31,17 @@ unfolding ibits
 leading_length zero a h = (0, refl, h, omega arith)
 leading_length (suc k) a h =
     elim (cases_lt a (2 ^ k)) [
-      inl small ↦
-        let rest = leading_length k a small in
-        let digit : a / 2 ^ k ≡ 0 = div-eq_of_lt small in
-        (rest.0, rw digit (omega (arith, rest.1)), rest.2, rest.3)
+      | inl small ↦
+          let rest = leading_length k a small in
+          let digit : a / 2 ^ k ≡ 0 = div-eq_of_lt small in
+          (rest.0, rw digit (omega (arith, rest.1)), rest.2, rest.3)
       | inr large ↦
-        let twice : 2 ^ suc k ≡ 2 ^ k * 2 = pow-suc 2 k in
-        let positive = pow_pos k in
-        let low : 1 ≤ a / 2 ^ k = le-div 1 a (2 ^ k) positive (omega arith) in
-        let high : a / 2 ^ k < 2 = div_below a (2 ^ k) 2 positive (omega arith) in
-        let digit : a / 2 ^ k ≡ 1 = omega arith in
-        (suc k, rw digit (omega arith), h, omega arith)
+          let twice : 2 ^ suc k ≡ 2 ^ k * 2 = pow-suc 2 k in
+          let positive = pow_pos k in
+          let low : 1 ≤ a / 2 ^ k = le-div 1 a (2 ^ k) positive (omega arith) in
+          let high : a / 2 ^ k < 2 = div_below a (2 ^ k) 2 positive (omega arith) in
+          let digit : a / 2 ^ k ≡ 1 = omega arith in
+          (suc k, rw digit (omega arith), h, omega arith)
     ]
 
 pub leading : (k a : ℕ) → a < 2 ^ k → prefix_len (λ d. eqb d 0) (ibits k a) ≡ count_leading_zeros k a
@@ -64,4 +64,4 @@ trailing (suc k) a =
     ap (suffix_len (λ d. eqb d 0)) (ibits_last k a)
     ∙ ap (prefix_len (λ d. eqb d 0)) (reverse-append (ibits k (a / 2)) ((a % 2) ∷ []))
     ∙ digit_cases (λ d. cond (eqb d 0) (1 + suffix_len (λ d. eqb d 0) (ibits k (a / 2))) 0 ≡ under d (count_trailing_zeros k (a / 2)))
-        (a % 2) (omega arith) (one-add _ ∙ ap suc rest) refl
+    (a % 2) (omega arith) (one-add _ ∙ ap suc rest) refl

@@ -1,15 +1,12 @@
 -- The binary digits of a number, and what the bit operations do to them, in the words of std.
-use Rattle.std.proofs.Common.{◌≡◌, ℕ, zero, suc, ◌+◌, ◌-◌, ◌*◌, ◌/◌, ◌%◌, ◌^◌, ◌<◌, ◌≤◌, min, max, cond, Bool, true, false, eqb, List, [], ◌∷◌, ◌++◌, length, take, drop, refl, sym, ap, ap₂, ◌∙◌, subst, arith, zero-add, length-append, lit<}
+use Rattle.std.proofs.Common.{◌≡◌, ℕ, zero, suc, ◌+◌, ◌*◌, ◌/◌, ◌%◌, ◌^◌, ◌<◌, min, max, List, [], ◌∷◌, ◌++◌, length, take, drop, refl, sym, ap, ap₂, ◌∙◌, arith, zero-add, length-append}
 use Rattle.std.proofs.Math.ListN.{replicate}
-use Rattle.std.proofs.Math.Nat.{suc-add, add_comm, pow-suc, div-eq_of_lt, mod-eq_of_lt, mul-mod_left}
-use Rattle.std.proofs.Math.Numerals.{one-add, add-one}
+use Rattle.std.proofs.Math.Nat.{suc-add, add_comm, pow-suc, mod-eq_of_lt, mul-mod_left}
+use Rattle.std.proofs.Math.Numerals.{one-add}
 use Rattle.std.proofs.Math.Seq.{take-append_seam, drop-append_seam}
-use Rattle.std.proofs.lemmas.Nat.{pow-add, shr-shr, mod-pow-add, shl-shr, shr_below, pow_pos, mod_below, leading_le, ones_cat, and_block, or_block, xor_block, or_shifted}
-use Rattle.std.proofs.lemmas.List.{length-replicate, reverse-append}
-use Rattle.std.proofs.lemmas.List.Sums.{sum_by-cons}
-use Rattle.std.specs.Int.Count.{ones, leading_unique, count_leading_zeros, count_trailing_zeros, under}
-use Rattle.std.specs.Int.Bits.{bit_and, bit_or, bit_xor, or_self}
-use Rattle.std.specs.List.{prefix_len, suffix_len, count_by}
+use Rattle.std.proofs.lemmas.Nat.{pow-add, shr-shr, mod-pow-add, shl-shr, shr_below, pow_pos, mod_below, and_block, or_block, xor_block}
+use Rattle.std.proofs.lemmas.List.{length-replicate}
+use Rattle.std.specs.Int.Bits.{bit_and, bit_or, bit_xor}
 use Rattle.wasm_num.specs.Integers.{ibits, of_ibits, digitwise}
 
 pub length-ibits : (n a : ℕ) → length (ibits n a) ≡ n
@@ -71,7 +68,7 @@ drop-ibits k j a =
 pub shift_left : (k j a : ℕ) → of_ibits (drop k (ibits (k + j) a) ++ replicate k 0) ≡ a * 2 ^ k % 2 ^ (k + j)
 shift_left k j a =
     let whole : a * 2 ^ k % 2 ^ (k + j) ≡ (a * 2 ^ k / 2 ^ k % 2 ^ j) * 2 ^ k + a * 2 ^ k % 2 ^ k =
-        ap (λ n. a * 2 ^ k % 2 ^ n) (add_comm k j) ∙ mod-pow-add (a * 2 ^ k) j k in
+    ap (λ n. a * 2 ^ k % 2 ^ n) (add_comm k j) ∙ mod-pow-add (a * 2 ^ k) j k in
     let high : a * 2 ^ k / 2 ^ k ≡ a = shl-shr a k in
     let low : a * 2 ^ k % 2 ^ k ≡ 0 = mul-mod_left a (2 ^ k) in
     let zeros : of_ibits (replicate k 0) ≡ 0 = omega (arith, of_ibits-replicate k 0) in
@@ -126,17 +123,17 @@ module _ (f op : ℕ → ℕ → ℕ) (none : op 0 0 ≡ 0) (single : (d e : ℕ
 and_digits : (d e : ℕ) → d < 2 → e < 2 → bit_and d e ≡ min d e
 and_digits d e h g =
     digit_cases (λ x. bit_and x e ≡ min x e) d h
-      (digit_cases (λ y. bit_and 0 y ≡ min 0 y) e g refl refl) (digit_cases (λ y. bit_and 1 y ≡ min 1 y) e g refl refl)
+    (digit_cases (λ y. bit_and 0 y ≡ min 0 y) e g refl refl) (digit_cases (λ y. bit_and 1 y ≡ min 1 y) e g refl refl)
 
 or_digits : (d e : ℕ) → d < 2 → e < 2 → bit_or d e ≡ max d e
 or_digits d e h g =
     digit_cases (λ x. bit_or x e ≡ max x e) d h
-      (digit_cases (λ y. bit_or 0 y ≡ max 0 y) e g refl refl) (digit_cases (λ y. bit_or 1 y ≡ max 1 y) e g refl refl)
+    (digit_cases (λ y. bit_or 0 y ≡ max 0 y) e g refl refl) (digit_cases (λ y. bit_or 1 y ≡ max 1 y) e g refl refl)
 
 xor_digits : (d e : ℕ) → d < 2 → e < 2 → bit_xor d e ≡ (d + e) % 2
 xor_digits d e h g =
     digit_cases (λ x. bit_xor x e ≡ (x + e) % 2) d h
-      (digit_cases (λ y. bit_xor 0 y ≡ (0 + y) % 2) e g refl refl) (digit_cases (λ y. bit_xor 1 y ≡ (1 + y) % 2) e g refl refl)
+    (digit_cases (λ y. bit_xor 0 y ≡ (0 + y) % 2) e g refl refl) (digit_cases (λ y. bit_xor 1 y ≡ (1 + y) % 2) e g refl refl)
 
 pub and_is : (n a b : ℕ) → a < 2 ^ n → b < 2 ^ n → of_ibits (digitwise min (ibits n a) (ibits n b)) ≡ bit_and a b
 and_is n a b h g = digitwise_is min bit_and refl and_digits and_block n a b ∙ ap₂ bit_and (mod-eq_of_lt h) (mod-eq_of_lt g)

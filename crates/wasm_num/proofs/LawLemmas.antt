@@ -1,5 +1,5 @@
 -- The laws of the integer operations.
-use Rattle.std.proofs.Common.{◌≡◌, ℕ, zero, suc, ◌+◌, ◌-◌, ◌*◌, ◌/◌, ◌%◌, ◌^◌, ◌<◌, ◌≤◌, Bool, true, false, cond, eqb, ltb, refl, sym, ap, ap₂, ◌∙◌, subst, arith, inl, inr, Result, Ok, Err, ℤ, pos, negsuc, neg_ℤ, ◌-ℤ◌, ◌*ℤ◌, int_div, int_rem}
+use Rattle.std.proofs.Common.{◌≡◌, ℕ, zero, suc, ◌+◌, ◌-◌, ◌*◌, ◌/◌, ◌%◌, ◌^◌, ◌<◌, ◌≤◌, Bool, true, false, cond, eqb, refl, sym, ap, ap₂, ◌∙◌, subst, arith, inl, inr, Result, Ok, Err, ℤ, pos, negsuc, neg_ℤ, ◌-ℤ◌, ◌*ℤ◌, int_div, int_rem}
 use Rattle.std.proofs.Math.Nat.{mod-eq_of_lt, pow-suc, add-mul-mod_self_right, le_trans, div-le_self, mod-le}
 use Rattle.std.proofs.lemmas.Bool.{lt-ltb, le-ltb, cases_lt}
 use Rattle.std.proofs.lemmas.Int.{ints}
@@ -9,7 +9,7 @@ use Rattle.std.specs.Int.Bits.{bit_xor}
 use Rattle.std.specs.Int.Count.{ones, ones-ones}
 use Rattle.wasm_syntax.specs.declared.trap.Trap.{Trap}
 use Rattle.wasm_syntax.specs.declared.trap.Trap.TheVariants.{DivideByZero, Overflow}
-use Rattle.wasm_num.specs.Integers.{signed, unsigned, irotl, irotr, ipopcnt, ixor, iadd, imul, idiv_s, idiv_u, irem_s, irem_u}
+use Rattle.wasm_num.specs.Integers.{signed, unsigned, irotl, irotr, ipopcnt, ixor, iadd, imul}
 use Rattle.wasm_num.specs.Laws.{UnsignedQuotientTimesDivisor, SignedQuotientTimesDivisor, LeftThenRight, RightThenLeft, SignedExtensionThenWrap, UnsignedExtensionThenWrap, OnesAndZeros, DigitsTellNumber, ReadingTellsNumber, LeftShiftMultiplies, UnsignedShiftDivides, SignedShiftDivides}
 use Rattle.wasm_num.proofs.Counts.{set_digits}
 use Rattle.wasm_num.proofs.Digits.{of_ibits-ibits, xor_is, digit_cases, mod-suc}
@@ -26,7 +26,7 @@ pub reading_tells_number : ReadingTellsNumber
 reading_tells_number N a h =
     let reading = signed_is N a h in
     elim (cases_lt a (2 ^ (N - 1))) [
-      inl small ↦ let test = lt-ltb a (2 ^ (N - 1)) small in rw (reading, test) refl
+      | inl small ↦ let test = lt-ltb a (2 ^ (N - 1)) small in rw (reading, test) refl
       | inr large ↦ let test = le-ltb a (2 ^ (N - 1)) large in rw (reading, test) (omega arith)
     ]
 
@@ -80,7 +80,7 @@ left_then_right N a k p h =
     let left : irotl N a k ≡ turned (N - k % N) (k % N) a = rotated_is N (k % N) a (omega arith) h in
     let below : turned (N - k % N) (k % N) a < 2 ^ N = there_below N (k % N) a (omega arith) h in
     let right : irotr N (turned (N - k % N) (k % N) a) k ≡ turned (N - (N - k % N)) (N - k % N) (turned (N - k % N) (k % N) a) =
-        rotated_is N (N - k % N) (turned (N - k % N) (k % N) a) (omega arith) below in
+    rotated_is N (N - k % N) (turned (N - k % N) (k % N) a) (omega arith) below in
     ap (λ x. irotr N x k) left ∙ right ∙ ap (λ m. turned m (N - k % N) (turned (N - k % N) (k % N) a)) back ∙ there_and_back N (k % N) a (omega arith) h
 
 pub right_then_left : RightThenLeft
@@ -91,7 +91,7 @@ right_then_left N a k p h =
     let right : irotr N a k ≡ turned (N - (N - k % N)) (N - k % N) a = rotated_is N (N - k % N) a (omega arith) h in
     let below : turned (N - (N - k % N)) (N - k % N) a < 2 ^ N = there_below N (N - k % N) a (omega arith) h in
     let left : irotl N (turned (N - (N - k % N)) (N - k % N) a) k ≡ turned (N - k % N) (k % N) (turned (N - (N - k % N)) (N - k % N) a) =
-        rotated_is N (k % N) (turned (N - (N - k % N)) (N - k % N) a) (omega arith) below in
+    rotated_is N (k % N) (turned (N - (N - k % N)) (N - k % N) a) (omega arith) below in
     let home : turned (N - k % N) (N - (N - k % N)) (turned (N - (N - k % N)) (N - k % N) a) ≡ a = there_and_back N (N - k % N) a (omega arith) h in
     ap (λ x. irotl N x k) right ∙ left ∙ ap (λ m. turned (N - k % N) m (turned (N - (N - k % N)) (N - k % N) a)) (sym back) ∙ home
 
@@ -104,16 +104,16 @@ pub signed_extension_then_wrap : SignedExtensionThenWrap
 signed_extension_then_wrap M N a h g =
     let reading = signed_is M a g in
     elim (cases_lt a (2 ^ (M - 1))) [
-      inl small ↦ let test = lt-ltb a (2 ^ (M - 1)) small in rw (reading, test) (mod-eq_of_lt g)
+      | inl small ↦ let test = lt-ltb a (2 ^ (M - 1)) small in rw (reading, test) (mod-eq_of_lt g)
       | inr large ↦
-        let test = le-ltb a (2 ^ (M - 1)) large in
-        let whole : N ≡ N - M + M = omega arith in
-        let both : 2 ^ N ≡ 2 ^ (N - M) * 2 ^ M = ap (λ n. 2 ^ n) whole ∙ pow-add 2 (N - M) M in
-        let positive = pow_pos (N - M) in
-        let rest : 2 ^ (N - M) - 1 + 1 ≡ 2 ^ (N - M) = omega arith in
-        let scaled : (2 ^ (N - M) - 1 + 1) * 2 ^ M ≡ 2 ^ (N - M) * 2 ^ M = ap (λ x. x * 2 ^ M) rest in
-        let value : 2 ^ N - suc (2 ^ M - suc a) ≡ (2 ^ (N - M) - 1) * 2 ^ M + a = omega arith in
-        rw (reading, test, value) (mod_low (2 ^ (N - M) - 1) M a g)
+          let test = le-ltb a (2 ^ (M - 1)) large in
+          let whole : N ≡ N - M + M = omega arith in
+          let both : 2 ^ N ≡ 2 ^ (N - M) * 2 ^ M = ap (λ n. 2 ^ n) whole ∙ pow-add 2 (N - M) M in
+          let positive = pow_pos (N - M) in
+          let rest : 2 ^ (N - M) - 1 + 1 ≡ 2 ^ (N - M) = omega arith in
+          let scaled : (2 ^ (N - M) - 1 + 1) * 2 ^ M ≡ 2 ^ (N - M) * 2 ^ M = ap (λ x. x * 2 ^ M) rest in
+          let value : 2 ^ N - suc (2 ^ M - suc a) ≡ (2 ^ (N - M) - 1) * 2 ^ M + a = omega arith in
+          rw (reading, test, value) (mod_low (2 ^ (N - M) - 1) M a g)
     ]
 
 -- ---- ones and zeros
@@ -134,10 +134,10 @@ complement_ones (suc N) a h =
     let twice : 2 ^ suc N ≡ 2 ^ N * 2 = pow-suc 2 N in
     let all : 2 ^ suc N - 1 ≡ 1 * 2 ^ N + (2 ^ N - 1) = omega arith in
     let crossed : bit_xor a (2 ^ suc N - 1) ≡ bit_xor (a / 2 ^ N % 2) 1 * 2 ^ N + bit_xor (a % 2 ^ N) (2 ^ N - 1) =
-        ap₂ bit_xor parts all ∙ xor_block N (a / 2 ^ N % 2) 1 (a % 2 ^ N) (2 ^ N - 1) low (omega arith) in
+    ap₂ bit_xor parts all ∙ xor_block N (a / 2 ^ N % 2) 1 (a % 2 ^ N) (2 ^ N - 1) low (omega arith) in
     let left : ones a ≡ ones (a / 2 ^ N % 2) + ones (a % 2 ^ N) = ap ones parts ∙ ones_cat N (a / 2 ^ N % 2) (a % 2 ^ N) low in
     let right : ones (bit_xor a (2 ^ suc N - 1)) ≡ ones (bit_xor (a / 2 ^ N % 2) 1) + ones (bit_xor (a % 2 ^ N) (2 ^ N - 1)) =
-        ap ones crossed ∙ ones_cat N (bit_xor (a / 2 ^ N % 2) 1) (bit_xor (a % 2 ^ N) (2 ^ N - 1)) (xor_lt N (a % 2 ^ N) (2 ^ N - 1) low (omega arith)) in
+    ap ones crossed ∙ ones_cat N (bit_xor (a / 2 ^ N % 2) 1) (bit_xor (a % 2 ^ N) (2 ^ N - 1)) (xor_lt N (a % 2 ^ N) (2 ^ N - 1) low (omega arith)) in
     let one = two_digits (a / 2 ^ N % 2) digit in
     let rest = complement_ones N (a % 2 ^ N) low in
     omega arith
@@ -149,7 +149,7 @@ ones_and_zeros_add_up N a h =
     let within = xor_lt N a (2 ^ N - 1) h all in
     let left : ipopcnt N a ≡ ones a = set_digits N a ∙ ap ones (mod-eq_of_lt h) in
     let right : ipopcnt N (ixor N a (2 ^ N - 1)) ≡ ones (bit_xor a (2 ^ N - 1)) =
-        ap (ipopcnt N) (xor_is N a (2 ^ N - 1) h all) ∙ set_digits N (bit_xor a (2 ^ N - 1)) ∙ ap ones (mod-eq_of_lt within) in
+    ap (ipopcnt N) (xor_is N a (2 ^ N - 1) h all) ∙ set_digits N (bit_xor a (2 ^ N - 1)) ∙ ap ones (mod-eq_of_lt within) in
     ap₂ (λ (x y : ℕ). x + y) left right ∙ complement_ones N a h
 
 -- ---- quotients and remainders
@@ -192,27 +192,27 @@ negated N (suc v) h = (1, omega arith)
 read_positive : (N a i : ℕ) → a < 2 ^ N → signed N a ≡ pos i → a ≡ i
 read_positive N a i h e =
     elim (cases_lt a (2 ^ (N - 1))) [
-      inl small ↦
-        let test = lt-ltb a (2 ^ (N - 1)) small in
-        let g = rw test at e in
-        omega (arith, ints)
+      | inl small ↦
+          let test = lt-ltb a (2 ^ (N - 1)) small in
+          let g = rw test at e in
+          omega (arith, ints)
       | inr large ↦
-        let test = le-ltb a (2 ^ (N - 1)) large in
-        let g = rw test at e in
-        absurd (omega (arith, ints))
+          let test = le-ltb a (2 ^ (N - 1)) large in
+          let g = rw test at e in
+          absurd (omega (arith, ints))
     ]
 
 read_negative : (N a i : ℕ) → a < 2 ^ N → signed N a ≡ negsuc i → a + suc i ≡ 2 ^ N
 read_negative N a i h e =
     elim (cases_lt a (2 ^ (N - 1))) [
-      inl small ↦
-        let test = lt-ltb a (2 ^ (N - 1)) small in
-        let g = rw test at e in
-        absurd (omega (arith, ints))
+      | inl small ↦
+          let test = lt-ltb a (2 ^ (N - 1)) small in
+          let g = rw test at e in
+          absurd (omega (arith, ints))
       | inr large ↦
-        let test = le-ltb a (2 ^ (N - 1)) large in
-        let g = rw test at e in
-        omega (arith, ints)
+          let test = le-ltb a (2 ^ (N - 1)) large in
+          let g = rw test at e in
+          omega (arith, ints)
     ]
 
 -- the readings of a and b, and of the quotient and the remainder
@@ -233,7 +233,7 @@ signed_law N a b (negsuc i) (pos j) h g ei ej =
     let value : (unsigned N (neg_ℤ (pos (suc i / j))) + suc i / j) * j ≡ quotient.0 * 2 ^ N * j = ap (λ x. x * j) quotient.1 in
     let product : unsigned N (neg_ℤ (pos (suc i / j))) * b ≡ unsigned N (neg_ℤ (pos (suc i / j))) * j = ap (λ x. unsigned N (neg_ℤ (pos (suc i / j))) * x) right in
     law_from N a b (unsigned N (neg_ℤ (pos (suc i / j)))) (unsigned N (neg_ℤ (pos (suc i % j)))) 1 (quotient.0 * j + remainder.0)
-      (omega (arith, remainder.1)) h
+    (omega (arith, remainder.1)) h
 signed_law N a b (pos i) (negsuc j) h g ei ej =
     let left = read_positive N a i h ei in
     let right : b + suc j ≡ 2 ^ N = read_negative N b j g ej in
@@ -241,7 +241,7 @@ signed_law N a b (pos i) (negsuc j) h g ei ej =
     let quotient = negated N (i / suc j) (le_trans (div-le_self i (suc j)) (omega arith)) in
     let value : (unsigned N (neg_ℤ (pos (i / suc j))) + i / suc j) * suc j ≡ quotient.0 * 2 ^ N * suc j = ap (λ x. x * suc j) quotient.1 in
     let product : unsigned N (neg_ℤ (pos (i / suc j))) * (b + suc j) ≡ unsigned N (neg_ℤ (pos (i / suc j))) * 2 ^ N =
-        ap (λ x. unsigned N (neg_ℤ (pos (i / suc j))) * x) right in
+    ap (λ x. unsigned N (neg_ℤ (pos (i / suc j))) * x) right in
     law_from N a b (unsigned N (neg_ℤ (pos (i / suc j)))) (i % suc j) (quotient.0 * suc j) (unsigned N (neg_ℤ (pos (i / suc j)))) (omega arith) h
 signed_law N a b (negsuc i) (negsuc j) h g ei ej =
     let left : a + suc i ≡ 2 ^ N = read_negative N a i h ei in

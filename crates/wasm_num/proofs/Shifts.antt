@@ -1,13 +1,11 @@
 -- Shifts and rotations by k of a number of width N, in the words of std.
-use Rattle.std.proofs.Common.{◌≡◌, ℕ, zero, suc, ◌+◌, ◌-◌, ◌*◌, ◌/◌, ◌%◌, ◌^◌, ◌<◌, ◌≤◌, ◌++◌, take, drop, true, false, ltb, refl, sym, ap, ap₂, ◌∙◌, subst, arith, inl, inr, ⊎_elim}
+use Rattle.std.proofs.Common.{◌≡◌, ℕ, zero, suc, ◌+◌, ◌-◌, ◌*◌, ◌/◌, ◌%◌, ◌^◌, ◌<◌, ◌≤◌, ◌++◌, take, drop, sym, ap, ap₂, ◌∙◌, subst, arith, inl, inr}
 use Rattle.std.proofs.Math.ListN.{replicate}
-use Rattle.std.proofs.Math.IntN.{ℤ, pos, negsuc}
 use Rattle.std.proofs.Math.Nat.{add_comm, mod-eq_of_lt, mul-mod_left, div-eq_of_lt, pow-suc, sub-zero, mod_self, mul-one, div-one}
 use Rattle.std.proofs.lemmas.Bool.{cases_lt, lt-ltb, le-ltb}
 use Rattle.std.proofs.lemmas.Nat.{pow_pos, pow-add, mod-pow-add, shl-shr, shr_below, shr_high, shr_split, mod_below, or_shifted, or_comm, le-div, div_below}
 use Rattle.std.specs.Int.{int_shr}
 use Rattle.std.specs.Int.Bits.{bit_or, or_self}
-use mir.Val.{sel}
 use Rattle.wasm_num.specs.Integers.{ibits, of_ibits, signed, unsigned, ishl, ishr_u, ishr_s, irotl, irotr}
 use Rattle.wasm_num.proofs.Digits.{shift_left, shift_right, rotation}
 use Rattle.wasm_num.proofs.Readings.{signed_is}
@@ -40,7 +38,7 @@ complement_shift k j a h =
     let scaled : (2 ^ j - suc (a / 2 ^ k) + suc (a / 2 ^ k)) * 2 ^ k ≡ 2 ^ j * 2 ^ k = ap (λ x. x * 2 ^ k) rest in
     let split : 2 ^ (j + k) - suc a ≡ (2 ^ j - suc (a / 2 ^ k)) * 2 ^ k + (2 ^ k - suc (a % 2 ^ k)) = omega arith in
     let quotient : (2 ^ (j + k) - suc a) / 2 ^ k ≡ 2 ^ j - suc (a / 2 ^ k) =
-        ap (λ x. x / 2 ^ k) split ∙ shr_high (2 ^ j - suc (a / 2 ^ k)) k (2 ^ k - suc (a % 2 ^ k)) (omega arith) in
+    ap (λ x. x / 2 ^ k) split ∙ shr_high (2 ^ j - suc (a / 2 ^ k)) k (2 ^ k - suc (a % 2 ^ k)) (omega arith) in
     omega arith
 
 negative_shift : (N k a : ℕ) → k ≤ N → a < 2 ^ N → (2 ^ N - suc a) / 2 ^ k + suc (a / 2 ^ k) ≡ 2 ^ (N - k)
@@ -53,21 +51,21 @@ pub right_signed_is : (N k a : ℕ) → 0 < N → k ≤ N → a < 2 ^ N → of_i
 right_signed_is N k a p h g =
     let reading = signed_is N a g in
     elim (cases_lt a (2 ^ (N - 1))) [
-      inl small ↦
-        let digit : a / 2 ^ (N - 1) ≡ 0 = div-eq_of_lt small in
-        let test = lt-ltb a (2 ^ (N - 1)) small in
-        rw (digit, reading, test) (right_unsigned_is N k a h g)
+      | inl small ↦
+          let digit : a / 2 ^ (N - 1) ≡ 0 = div-eq_of_lt small in
+          let test = lt-ltb a (2 ^ (N - 1)) small in
+          rw (digit, reading, test) (right_unsigned_is N k a h g)
       | inr large ↦
-        let positive = pow_pos (N - 1) in
-        let one_more : N ≡ suc (N - 1) = omega arith in
-        let twice : 2 ^ N ≡ 2 ^ (N - 1) * 2 = ap (λ n. 2 ^ n) one_more ∙ pow-suc 2 (N - 1) in
-        let low : 1 ≤ a / 2 ^ (N - 1) = le-div 1 a (2 ^ (N - 1)) positive (omega arith) in
-        let high : a / 2 ^ (N - 1) < 2 = div_below a (2 ^ (N - 1)) 2 positive (omega arith) in
-        let digit : a / 2 ^ (N - 1) ≡ 1 = omega arith in
-        let test = le-ltb a (2 ^ (N - 1)) large in
-        let moved = right_by N k a 1 h g in
-        let complement = negative_shift N k a h g in
-        rw (digit, reading, test) (omega arith)
+          let positive = pow_pos (N - 1) in
+          let one_more : N ≡ suc (N - 1) = omega arith in
+          let twice : 2 ^ N ≡ 2 ^ (N - 1) * 2 = ap (λ n. 2 ^ n) one_more ∙ pow-suc 2 (N - 1) in
+          let low : 1 ≤ a / 2 ^ (N - 1) = le-div 1 a (2 ^ (N - 1)) positive (omega arith) in
+          let high : a / 2 ^ (N - 1) < 2 = div_below a (2 ^ (N - 1)) 2 positive (omega arith) in
+          let digit : a / 2 ^ (N - 1) ≡ 1 = omega arith in
+          let test = le-ltb a (2 ^ (N - 1)) large in
+          let moved = right_by N k a 1 h g in
+          let complement = negative_shift N k a h g in
+          rw (digit, reading, test) (omega arith)
     ]
 
 pub rotated_is : (N k a : ℕ) → k ≤ N → a < 2 ^ N → of_ibits (drop k (ibits N a) ++ take k (ibits N a)) ≡ (a % 2 ^ (N - k)) * 2 ^ k + a / 2 ^ (N - k)
@@ -80,7 +78,7 @@ rotated_is N k a h g =
 joined : (k j a : ℕ) → a < 2 ^ (k + j) → bit_or (a * 2 ^ k % 2 ^ (k + j)) (a / 2 ^ j) ≡ (a % 2 ^ j) * 2 ^ k + a / 2 ^ j
 joined k j a h =
     let whole : a * 2 ^ k % 2 ^ (k + j) ≡ (a * 2 ^ k / 2 ^ k % 2 ^ j) * 2 ^ k + a * 2 ^ k % 2 ^ k =
-        ap (λ n. a * 2 ^ k % 2 ^ n) (add_comm k j) ∙ mod-pow-add (a * 2 ^ k) j k in
+    ap (λ n. a * 2 ^ k % 2 ^ n) (add_comm k j) ∙ mod-pow-add (a * 2 ^ k) j k in
     let high : a * 2 ^ k / 2 ^ k ≡ a = shl-shr a k in
     let low : a * 2 ^ k % 2 ^ k ≡ 0 = mul-mod_left a (2 ^ k) in
     let left : a * 2 ^ k % 2 ^ (k + j) ≡ (a % 2 ^ j) * 2 ^ k = whole ∙ ap₂ (λ (x y : ℕ). x % 2 ^ j * 2 ^ k + y) high low ∙ omega arith in
@@ -118,7 +116,7 @@ rotated_right_is N (suc k) a h g =
     let rest : (N - suc k) % N ≡ N - suc k = mod-eq_of_lt (omega arith) in
     let back : N - (N - suc k) ≡ suc k = omega arith in
     let turned : of_ibits (drop (N - suc k) (ibits N a) ++ take (N - suc k) (ibits N a)) ≡ bit_or (a * 2 ^ (N - suc k) % 2 ^ N) (a / 2 ^ (N - (N - suc k))) =
-        rotated_is N (N - suc k) a (omega arith) g ∙ sym (joined_is N (N - suc k) a (omega arith) g) in
+    rotated_is N (N - suc k) a (omega arith) g ∙ sym (joined_is N (N - suc k) a (omega arith) g) in
     rw rest (turned ∙ or_comm (a * 2 ^ (N - suc k) % 2 ^ N) (a / 2 ^ (N - (N - suc k))) ∙ ap (λ m. bit_or (a / 2 ^ m) (a * 2 ^ (N - suc k) % 2 ^ N)) back)
 
 -- ---- the same of the operations

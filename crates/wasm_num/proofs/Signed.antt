@@ -1,13 +1,12 @@
 -- What the code's signed remainder and signed shift compute, at a width w of std that has N bits.
-use Rattle.std.proofs.Common.{◌≡◌, ℕ, ◌+◌, ◌-◌, ◌*◌, ◌%◌, ◌^◌, ◌<◌, ◌≢◌, cond, eqb, refl, sym, ap, ◌∙◌, arith, Result, Ok, Err, lit<}
-use Rattle.std.proofs.Math.IntN.{ℤ, pos, negsuc, ◌+ℤ◌, ◌-ℤ◌, ◌*ℤ◌, *ℤ_comm}
+use Rattle.std.proofs.Common.{◌≡◌, ℕ, ◌%◌, ◌^◌, ◌<◌, ◌≢◌, sym, ap, ◌∙◌, arith, Result, Ok}
+use Rattle.std.proofs.Math.IntN.{ℤ, ◌+ℤ◌, ◌-ℤ◌, ◌*ℤ◌, *ℤ_comm}
 use Rattle.std.proofs.lemmas.Bool.{ne_eqb}
 use Rattle.std.proofs.lemmas.Int.{ints, to_z-of_z, quot-rem}
-use Rattle.std.specs.Int.{Width, w32, w64, cast_signed, cast_unsigned, int_shr}
+use Rattle.std.specs.Int.{Width, cast_signed, cast_unsigned, int_shr}
 use Rattle.std.specs.Int.RustNames.{FitsSigned, int_div, int_rem}
 use Rattle.wasm_syntax.specs.declared.trap.Trap.{Trap}
 use Rattle.wasm_num.specs.Integers.{signed, unsigned, irem_s, ishr_s}
-use Rattle.wasm_num.proofs.Readings.{signed_32, signed_64, unsigned_32, unsigned_64}
 use Rattle.wasm_num.proofs.Shifts.{ishr_s_is}
 
 remainder : (p r z : ℤ) → p +ℤ r ≡ z → r ≡ z -ℤ p
@@ -35,8 +34,8 @@ module _ (w : Width) (N : ℕ) (positive : 0 < N) (reading : (n : ℕ) → n < 2
       let left : cast_signed w (cast_unsigned w x) ≡ signed N a = to_z-of_z w x fx ∙ ex ∙ sym (reading a h) in
       let right : cast_signed w (cast_unsigned w y) ≡ signed N b = to_z-of_z w y fy ∙ ey ∙ sym (reading b g) in
       let value : z ≡ signed N a -ℤ signed N b *ℤ int_div (signed N a) (signed N b) =
-          ez ∙ ap (λ d. int_rem d (cast_signed w (cast_unsigned w y))) left ∙ ap (int_rem (signed N a)) right ∙ rem_by_quotient (signed N a) (signed N b) in
+      ez ∙ ap (λ d. int_rem d (cast_signed w (cast_unsigned w y))) left ∙ ap (int_rem (signed N a)) right ∙ rem_by_quotient (signed N a) (signed N b) in
       let number : r ≡ unsigned N (signed N a -ℤ signed N b *ℤ int_div (signed N a) (signed N b)) =
-          er ∙ ap (cast_unsigned w) (to_z-of_z w z fz ∙ value) ∙ sym (back (signed N a -ℤ signed N b *ℤ int_div (signed N a) (signed N b))) in
+      er ∙ ap (cast_unsigned w) (to_z-of_z w z fz ∙ value) ∙ sym (back (signed N a -ℤ signed N b *ℤ int_div (signed N a) (signed N b))) in
       let test = ne_eqb b 0 ne in
       rw test (ap Ok number)

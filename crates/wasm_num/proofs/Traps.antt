@@ -1,5 +1,5 @@
 -- When a binary operation traps.
-use Rattle.std.proofs.Common.{◌≡◌, ◌≢◌, ℕ, zero, suc, ◌+◌, ◌-◌, ◌*◌, ◌/◌, ◌%◌, ◌^◌, ◌<◌, ◌≤◌, ◌⊎◌, ◌↔◌, ◌&&◌, Bool, true, false, cond, eqb, IsTrue, IfErr, IfOk, refl, sym, ap, ◌∙◌, arith, rules, inl, inr, Result, Ok, Err, ℤ, pos, negsuc, neg_ℤ, int_div, eq-eqb, eqb-true, lit<}
+use Rattle.std.proofs.Common.{◌≡◌, ℕ, zero, suc, ◌-◌, ◌*◌, ◌^◌, ◌<◌, ◌⊎◌, ◌↔◌, ◌&&◌, Bool, true, false, cond, eqb, IsTrue, IfErr, IfOk, refl, sym, ap, ◌∙◌, arith, inl, inr, Result, Ok, Err, pos, negsuc, neg_ℤ, int_div, eq-eqb, eqb-true, lit<}
 use Rattle.std.proofs.Math.Dec.{eqb-suc-zero}
 use Rattle.std.proofs.Math.Nat.{pow-suc}
 use Rattle.std.proofs.lemmas.Int.{ints}
@@ -65,14 +65,14 @@ module _ (N : ℕ) (positive : 0 < N) where
       let two = twice in
       let half = pow_pos (N - 1) in
       elim (cases_lt a (2 ^ (N - 1))) [
-        inl small ↦
-          let test = lt-ltb a (2 ^ (N - 1)) small in
-          let g = rw test at e in
-          absurd (omega (arith, ints))
+        | inl small ↦
+            let test = lt-ltb a (2 ^ (N - 1)) small in
+            let g = rw test at e in
+            absurd (omega (arith, ints))
         | inr large ↦
-          let test = le-ltb a (2 ^ (N - 1)) large in
-          let g = rw test at e in
-          omega (arith, ints)
+            let test = le-ltb a (2 ^ (N - 1)) large in
+            let g = rw test at e in
+            omega (arith, ints)
       ]
 
   minus_one_of : (b : ℕ) → b ≡ 2 ^ N - 1 → signed N b ≡ negsuc 0
@@ -87,14 +87,14 @@ module _ (N : ℕ) (positive : 0 < N) where
       let two = twice in
       let half = pow_pos (N - 1) in
       elim (cases_lt b (2 ^ (N - 1))) [
-        inl small ↦
-          let test = lt-ltb b (2 ^ (N - 1)) small in
-          let g = rw test at e in
-          absurd (omega (arith, ints))
+        | inl small ↦
+            let test = lt-ltb b (2 ^ (N - 1)) small in
+            let g = rw test at e in
+            absurd (omega (arith, ints))
         | inr large ↦
-          let test = le-ltb b (2 ^ (N - 1)) large in
-          let g = rw test at e in
-          omega (arith, ints)
+            let test = le-ltb b (2 ^ (N - 1)) large in
+            let g = rw test at e in
+            omega (arith, ints)
       ]
 
 tests : (x y z : Bool) (r : ℕ) → cond x (Err DivideByZero) (cond (y && z) (Err Overflow) (Ok r)) ≡ Err Overflow → (y ≡ true) × (z ≡ true)
@@ -108,11 +108,11 @@ overflow_test : (a b l m r : ℕ) → 0 < m
 overflow_test a b l m r h = (
   λ e. let passed = tests (eqb b 0) (eqb a l) (eqb b m) r e in (eqb-true a l passed.0, eqb-true b m passed.1),
   λ f.
-    let b_is = f.1 in
-    let nonzero = ne_eqb b 0 (λ e. omega arith) in
-    let left = eq-eqb a l f.0 in
-    let right = eq-eqb b m f.1 in
-    rw (nonzero, left, right) refl,
+      let b_is = f.1 in
+      let nonzero = ne_eqb b 0 (λ e. omega arith) in
+      let left = eq-eqb a l f.0 in
+      let right = eq-eqb b m f.1 in
+      rw (nonzero, left, right) refl,
 )
 
 only_zero : (x : Bool) (r : ℕ) → cond x (Err DivideByZero) (Ok r) ≡ Err Overflow → ⊥

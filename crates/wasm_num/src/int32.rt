@@ -87,7 +87,11 @@ fn rem_s(a: u32, b: u32) -> Result<u32, Trap>
     if b == 0 {
         return Err(Trap::DivideByZero);
     }
-    Ok(a.cast_signed().wrapping_rem(b.cast_signed()).cast_unsigned())
+    Ok(
+        a.cast_signed()
+            .wrapping_rem(b.cast_signed())
+            .cast_unsigned(),
+    )
 }
 
 fn rem_u(a: u32, b: u32) -> Result<u32, Trap>

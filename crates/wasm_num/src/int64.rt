@@ -32,7 +32,7 @@ pub fn binary(op: BinOp, a: u64, b: u64) -> Result<u64, Trap>
 
 #[tactic(auto, unfolding(crate::specs::Integers::integer_unary))]
 pub fn unary(op: UnOp, a: u64) -> u64
-        ensures { result ≡ integer_unary op 64 a }
+    ensures { result ≡ integer_unary op 64 a }
 {
     match op {
         UnOp::Clz => u64::from(a.leading_zeros()),
@@ -86,7 +86,11 @@ fn rem_s(a: u64, b: u64) -> Result<u64, Trap>
     if b == 0 {
         return Err(Trap::DivideByZero);
     }
-    Ok(a.cast_signed().wrapping_rem(b.cast_signed()).cast_unsigned())
+    Ok(
+        a.cast_signed()
+            .wrapping_rem(b.cast_signed())
+            .cast_unsigned(),
+    )
 }
 
 fn rem_u(a: u64, b: u64) -> Result<u64, Trap>

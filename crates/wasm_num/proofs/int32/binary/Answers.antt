@@ -1,4 +1,4 @@
-use Rattle.std.proofs.Common.{ap, sym, ◌∙◌, lit<, Ok}
+use Rattle.std.proofs.Common.{lit<}
 use Rattle.wasm_num.specs.Integers.{integer_binary}
 use Rattle.wasm_num.proofs.Digits.{and_is, or_is, xor_is}
 use Rattle.wasm_num.proofs.Shifts.{ishl_is, ishr_u_is, irotl_is, irotr_is}
