@@ -7,6 +7,7 @@ ghost use Rattle.wasm_num.specs.Integers.{integer_binary, integer_unary, integer
 use crate::num::{BinOp, CmpOp, UnOp};
 use wasm_syntax::Trap;
 
+/// A binary operation by its name.
 #[tactic(auto, unfolding(crate::specs::Integers::integer_binary))]
 pub fn binary(op: BinOp, a: u32, b: u32) -> Result<u32, Trap>
     ensures { result ≡ integer_binary op 32 a b }
@@ -30,6 +31,7 @@ pub fn binary(op: BinOp, a: u32, b: u32) -> Result<u32, Trap>
     }
 }
 
+/// A unary operation by its name. No number of 32 bits extends from 32 bits.
 #[tactic(auto, unfolding(crate::specs::Integers::integer_unary))]
 pub fn unary(op: UnOp, a: u32) -> u32
     requires { least_width_of op ≤ 32 }
@@ -45,6 +47,7 @@ pub fn unary(op: UnOp, a: u32) -> u32
     }
 }
 
+/// A comparison by its name.
 #[tactic(auto, unfolding(crate::specs::Integers::integer_compare))]
 pub fn compare(op: CmpOp, a: u32, b: u32) -> bool
     ensures { result ≡ integer_compare op 32 a b }

@@ -7,6 +7,7 @@ ghost use Rattle.wasm_num.specs.Integers.{integer_binary, integer_unary, integer
 use crate::num::{BinOp, CmpOp, UnOp};
 use wasm_syntax::Trap;
 
+/// A binary operation by its name.
 #[tactic(auto, unfolding(crate::specs::Integers::integer_binary))]
 pub fn binary(op: BinOp, a: u64, b: u64) -> Result<u64, Trap>
     ensures { result ≡ integer_binary op 64 a b }
@@ -30,6 +31,7 @@ pub fn binary(op: BinOp, a: u64, b: u64) -> Result<u64, Trap>
     }
 }
 
+/// A unary operation by its name.
 #[tactic(auto, unfolding(crate::specs::Integers::integer_unary))]
 pub fn unary(op: UnOp, a: u64) -> u64
     ensures { result ≡ integer_unary op 64 a }
@@ -44,6 +46,7 @@ pub fn unary(op: UnOp, a: u64) -> u64
     }
 }
 
+/// A comparison by its name.
 #[tactic(auto, unfolding(crate::specs::Integers::integer_compare))]
 pub fn compare(op: CmpOp, a: u64, b: u64) -> bool
     ensures { result ≡ integer_compare op 64 a b }
@@ -154,6 +157,7 @@ fn extend_32(a: u64) -> u64
     extend_s((a & 0xffff_ffff) as u32)
 }
 
+/// The number of 64 bits that has the signed reading of one of 32.
 pub fn extend_s(a: u32) -> u64
     ensures { result ≡ extend_s 32 64 a }
 {

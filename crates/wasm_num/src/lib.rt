@@ -5,9 +5,10 @@
 //! No call takes memory.
 #![tactic(auto)]
 
-ghost use Rattle.std.specs.Prelude.{◌≡◌, ◌≤◌, ◌-◌, ◌^◌, ◌↔◌, IsTrue, IfOk, IfErr, ◌⊎◌, pos, negsuc, neg_ℤ};
-ghost use Rattle.wasm_num.specs.Integers.{binary_of, unary_of, compare_of, convert_of, width_of, number_of, signed_of};
-ghost use Rattle.wasm_num.specs.Integers.{is_division, least_width_of, source_width_of, target_width_of};
+ghost use Rattle.std.specs.Prelude.{◌≡◌, ◌≤◌, ◌-◌, ◌^◌, ◌↔◌, ◌⊎◌, IsTrue, IfOk, IfErr, pos, negsuc, neg_ℤ};
+ghost use Rattle.wasm_num.specs.Integers.{binary_of, unary_of, compare_of, convert_of};
+ghost use Rattle.wasm_num.specs.Integers.{width_of, number_of, signed_of, is_division};
+ghost use Rattle.wasm_num.specs.Integers.{least_width_of, source_width_of, target_width_of};
 
 pub use num::{BinOp, CmpOp, ConvOp, Num, UnOp};
 use wasm_syntax::Trap;
@@ -25,11 +26,13 @@ pub fn binary(op: BinOp, a: Num, b: Num) -> Result<Num, Trap>
     ensures value { result ≡ binary_of op a b }
     ensures width { IfOk result (λ c. width_of c ≡ width_of a) }
 
-    ensures divide_by_zero { (result ≡ Err Trap.DivideByZero) ↔ (IsTrue (is_division op) × (number_of b ≡ 0)) }
+    ensures divide_by_zero { (result ≡ Err Trap.DivideByZero)
+        ↔ (IsTrue (is_division op) × (number_of b ≡ 0)) }
     // the least value by -1
     ensures overflow { (result ≡ Err Trap.Overflow)
         ↔ ((op ≡ BinOp.DivS) × (signed_of a ≡ neg_ℤ (pos (2 ^ (width_of a - 1)))) × (signed_of b ≡ negsuc 0)) }
-    ensures no_other_trap { IfErr result (λ trap. (trap ≡ Trap.DivideByZero) ⊎ (trap ≡ Trap.Overflow)) }
+    ensures no_other_trap { IfErr result (λ trap.
+        (trap ≡ Trap.DivideByZero) ⊎ (trap ≡ Trap.Overflow)) }
 {
     binary_by_width(op, a, b)
 }

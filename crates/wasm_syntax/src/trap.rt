@@ -1,6 +1,6 @@
 //! Why an instruction stops its program.
 
-/// The cause of a trap (WebAssembly Core 2.0, sections 4.2.1 and 4.4). A trap ends the running
+/// The cause of a trap (WebAssembly Core 2.0, sections 4.2.2 and 4.4). A trap ends the running
 /// computation and can't be handled inside WebAssembly.
 #[derive(Clone, Copy, PartialEq, Eq, Debug)]
 pub enum Trap {
