@@ -1,0 +1,71 @@
+//! Numbers with their width, and the names of the operations on them.
+
+/// A number of the type `i32` or `i64` of WebAssembly. The types have no sign: an operation whose name
+/// ends in `_s` reads its operands in two's complement.
+#[derive(Clone, Copy, PartialEq, Eq, Debug)]
+pub enum Num {
+    /// 32 bits.
+    I32(u32),
+    /// 64 bits.
+    I64(u64),
+}
+
+/// The operations that give a number from two of one width (`ibinop` in WebAssembly Core 2.0,
+/// section 2.4.1).
+#[derive(Clone, Copy, PartialEq, Eq, Debug)]
+pub enum BinOp {
+    Add,
+    Sub,
+    Mul,
+    DivS,
+    DivU,
+    RemS,
+    RemU,
+    And,
+    Or,
+    Xor,
+    Shl,
+    ShrS,
+    ShrU,
+    Rotl,
+    Rotr,
+}
+
+/// The operations that give a number from one of the same width (`iunop`, `extend8_s`, `extend16_s`
+/// and `extend32_s`).
+#[derive(Clone, Copy, PartialEq, Eq, Debug)]
+pub enum UnOp {
+    Clz,
+    Ctz,
+    Popcnt,
+    Extend8S,
+    Extend16S,
+    /// Of an `i64` alone.
+    Extend32S,
+}
+
+/// The comparisons of two numbers of one width (`irelop`).
+#[derive(Clone, Copy, PartialEq, Eq, Debug)]
+pub enum CmpOp {
+    Eq,
+    Ne,
+    LtS,
+    LtU,
+    GtS,
+    GtU,
+    LeS,
+    LeU,
+    GeS,
+    GeU,
+}
+
+/// The conversions between the widths.
+#[derive(Clone, Copy, PartialEq, Eq, Debug)]
+pub enum ConvOp {
+    /// `i32.wrap_i64`: the low 32 bits.
+    Wrap,
+    /// `i64.extend_i32_s`.
+    ExtendS,
+    /// `i64.extend_i32_u`.
+    ExtendU,
+}
