@@ -4,10 +4,9 @@ ghost use Rattle.embed_base.specs.Answers.{OnTooLong};
 
 use crate::files::{FileError, Files};
 use std::alloc::Global;
-use std::fs;
 use std::io::{ErrorKind, Read};
 use std::marker::Model;
-use std::rt;
+use std::{fs, rt};
 
 /// How many bytes are asked for in one read.
 const CHUNK: usize = 16_384;

@@ -89,8 +89,8 @@ sum_left_shows (product n) o k m nodes left last id (x, is, same, here, shows, b
 sum_left_shows (added a p j n) o k m nodes left last id (front, x, is, (more, same, here, shows, before)) h =
     let P : List Task → Type 0 = λ xs. TodosShow nodes (sum_todos (added (added a p j n) o k m)) xs in
     subst P (sym (ap (λ xs. chain_tasks xs last) is ∙ chain_more front x last))
-        (show_append nodes (sum_todos (added a p j n)) (evaluates (product m) ∷ applies (operator_of o) k ∷ []) (chain_tasks front x.node) (tasks.Evaluate last ∷ tasks.Operate x.operator x.place ∷ [])
-            (sum_left_shows a p j n nodes front x.node id more shows) (h, ((same, here), tt)))
+    (show_append nodes (sum_todos (added a p j n)) (evaluates (product m) ∷ applies (operator_of o) k ∷ []) (chain_tasks front x.node) (tasks.Evaluate last ∷ tasks.Operate x.operator x.place ∷ [])
+    (sum_left_shows a p j n nodes front x.node id more shows) (h, ((same, here), tt)))
 
 sum_left_before : (a : Sum) (o : Additive) (k : ℕ) (nodes : List Node) (left : List Operand) (id : ℕ) → SumLeft a o k nodes left id → AllBefore id left
 sum_left_before (product n) o k nodes left id (x, is, same, here, shows, before) = subst (AllBefore id) (sym is) (before, tt)
@@ -104,8 +104,8 @@ product_left_shows (factor g) k f nodes left last id (x, is, same, here, shows, 
 product_left_shows (times a j g) k f nodes left last id (front, x, is, (more, same, here, shows, before)) h =
     let P : List Task → Type 0 = λ xs. TodosShow nodes (product_todos (times (times a j g) k f)) xs in
     subst P (sym (ap (λ xs. chain_tasks xs last) is ∙ chain_more front x last))
-        (show_append nodes (product_todos (times a j g)) (evaluates (product (factor f)) ∷ applies operators.Times k ∷ []) (chain_tasks front x.node) (tasks.Evaluate last ∷ tasks.Operate x.operator x.place ∷ [])
-            (product_left_shows a j g nodes front x.node id more shows) (h, ((same, here), tt)))
+    (show_append nodes (product_todos (times a j g)) (evaluates (product (factor f)) ∷ applies operators.Times k ∷ []) (chain_tasks front x.node) (tasks.Evaluate last ∷ tasks.Operate x.operator x.place ∷ [])
+    (product_left_shows a j g nodes front x.node id more shows) (h, ((same, here), tt)))
 
 product_left_before : (a : Product) (k : ℕ) (nodes : List Node) (left : List Operand) (id : ℕ) → ProductLeft a k nodes left id → AllBefore id left
 product_left_before (factor g) k nodes left id (x, is, same, here, shows, before) = subst (AllBefore id) (sym is) (before, tt)
@@ -136,7 +136,7 @@ sum_chain b a o k m nodes id (forms.Chain left last) place (shows, ends, before)
   unrolls = sum_unrolls b (added a o k m);
   fits = sum_fits (added a o k m);
   before = sum_left_before a o k nodes left id shows;
-  last_before = before
+  last_before = before;
 }
 sum_chain b a o k m nodes id _ place h = absurd h
 
@@ -148,7 +148,7 @@ product_chain b a k f nodes id (forms.Chain left last) place (shows, ends, befor
   unrolls = product_unrolls b (times a k f);
   fits = product_fits (times a k f);
   before = product_left_before a k nodes left id shows;
-  last_before = before
+  last_before = before;
 }
 product_chain b a k f nodes id _ place h = absurd h
 
@@ -196,7 +196,7 @@ pushed left n i d next old mid new at within first second =
     let x : Operand = get_or left i d in
     let taken : take n left ≡ take i left ++ x ∷ [] = ap (λ j. take j left) at ∙ take_more left i d within in
     let turned : reverse new ≡ tasks.Evaluate next ∷ tasks.Operate x.operator x.place ∷ reverse old =
-        ap reverse second ∙ reverse-append mid (tasks.Evaluate next ∷ []) ∙ ap (λ ts. tasks.Evaluate next ∷ ts) (ap reverse first ∙ reverse-append old (tasks.Operate x.operator x.place ∷ [])) in
+    ap reverse second ∙ reverse-append mid (tasks.Evaluate next ∷ []) ∙ ap (λ ts. tasks.Evaluate next ∷ ts) (ap reverse first ∙ reverse-append old (tasks.Operate x.operator x.place ∷ [])) in
     ap (λ ts. chain_tasks (take i left) x.node ++ ts) turned
     ∙ sym (append_assoc (chain_tasks (take i left) x.node) (tasks.Evaluate next ∷ tasks.Operate x.operator x.place ∷ []) (reverse old))
     ∙ ap (λ ts. ts ++ reverse old) (sym (ap (λ xs. chain_tasks xs next) taken ∙ chain_more (take i left) x next))

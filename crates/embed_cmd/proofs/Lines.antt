@@ -79,7 +79,7 @@ value_done nodes b all id ids v done more f is grown =
     subst (λ vs. ValuesLeft nodes b all ids vs) (sym grown) (record {
       rest = f.rest;
       shown = f.rest_shown;
-      gives = f.gives ∙ ap (λ r. after_values done (and_then r (λ w. and_then (values_of b f.rest) (λ vs. Ok (w ∷ vs))))) is ∙ one_more done v (values_of b f.rest)
+      gives = f.gives ∙ ap (λ r. after_values done (and_then r (λ w. and_then (values_of b f.rest) (λ vs. Ok (w ∷ vs))))) is ∙ one_more done v (values_of b f.rest);
     })
 
 -- its refusal is that of all

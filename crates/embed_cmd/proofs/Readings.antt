@@ -20,7 +20,7 @@ refused_bytes bytes (Err e) none is = tt
 ran_only : (bytes : List ℕ) (tree : Tree) (t : Transcript) → IsTree bytes tree → ((d : Script) → ScriptShows d tree.nodes tree.top → t ≡ transcript_of (outcome_of d)) → IsTheScriptTranscript bytes t
 ran_only bytes tree t h ran = record {
   is = inl (h.script, h.text, ran h.script h.shown);
-  only = λ u other. elim other [ inl w ↦ w.2 ∙ sym (ran w.0 (h.all w.0 w.1)) | inr w ↦ absurd (w.0 h.script h.text) ]
+  only = λ u other. elim other [ inl w ↦ w.2 ∙ sym (ran w.0 (h.all w.0 w.1)) | inr w ↦ absurd (w.0 h.script h.text) ];
 }
 
 -- a script's bytes are run
@@ -31,7 +31,7 @@ ran_bytes bytes tree (Err e) h ran = tt
 within_only : (path bytes : List ℕ) (t : Transcript) → length bytes ≤ most_script_bytes → IsTheScriptTranscript bytes t → IsTheFileTranscript path bytes t
 within_only path bytes t within h = record {
   is = inr (within, h.is);
-  only = λ u other. elim other [ inl w ↦ absurd (omega (arith, w.0, within)) | inr w ↦ h.only u w.1 ]
+  only = λ u other. elim other [ inl w ↦ absurd (omega (arith, w.0, within)) | inr w ↦ h.only u w.1 ];
 }
 
 -- a file within its limit has the transcript of its bytes
@@ -42,7 +42,7 @@ read_file path None bytes t is within h = tt
 past_only : (path bytes : List ℕ) (t : Transcript) → most_script_bytes < length bytes → t ≡ too_long path → IsTheFileTranscript path bytes t
 past_only path bytes t past is = record {
   is = inl (past, is);
-  only = λ u other. elim other [ inl w ↦ w.1 ∙ sym is | inr w ↦ absurd (omega (arith, w.0, past)) ]
+  only = λ u other. elim other [ inl w ↦ w.1 ∙ sym is | inr w ↦ absurd (omega (arith, w.0, past)) ];
 }
 
 -- a file past its limit is refused

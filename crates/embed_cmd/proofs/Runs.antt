@@ -54,10 +54,10 @@ pub statements_show : (d : Script) (nodes : List Node) (ids : List NodeId) → S
 statements_show nothing nodes ids is = subst (λ xs. StatementsShow nodes [] xs) (sym is) tt
 statements_show (declaration s l w n q e c) nodes ids (front, x, is, (more, at)) =
     subst (λ xs. StatementsShow nodes (statements_of s ++ declares w e ∷ []) xs) (sym is)
-        (statements_append nodes (statements_of s) (declares w e ∷ []) front (x ∷ []) (statements_show s nodes front more) (weaker (slice_get nodes x.0) _ _ (λ n h. h.1) at, tt))
+    (statements_append nodes (statements_of s) (declares w e ∷ []) front (x ∷ []) (statements_show s nodes front more) (weaker (slice_get nodes x.0) _ _ (λ n h. h.1) at, tt))
 statements_show (printing s p o a c e) nodes ids (front, x, is, (more, at)) =
     subst (λ xs. StatementsShow nodes (statements_of s ++ prints (expressions_of a) ∷ []) xs) (sym is)
-        (statements_append nodes (statements_of s) (prints (expressions_of a) ∷ []) front (x ∷ []) (statements_show s nodes front more) (weaker (slice_get nodes x.0) _ _ (λ n h. print_shows nodes a n.form h.1) at, tt))
+    (statements_append nodes (statements_of s) (prints (expressions_of a) ∷ []) front (x ∷ []) (statements_show s nodes front more) (weaker (slice_get nodes x.0) _ _ (λ n h. print_shows nodes a n.form h.1) at, tt))
 
 -- a run that goes on, the statements that are left, and what all of them give
 pub record RunLeft (nodes : List Node) (d : Script) (ids : List NodeId) (run : Run) : Type 0 where
@@ -118,5 +118,5 @@ begun_left nodes d ids run shows empty no_text = record {
   is_bound = λ name. ap (λ es. lookup (λ k. bytes_eq name (string_bytes k)) es) empty;
   printed = no_text;
   shown = statements_show d nodes ids shows;
-  gives = refl
+  gives = refl;
 }

@@ -92,4 +92,3 @@ size_least nodes (suc depth) id = node_least (size_of nodes depth) (slice_get no
 pub task_least : (nodes : List Node) (x : Task) → 1 ≤ task_size nodes x
 task_least nodes (tasks.Evaluate id) = size_least nodes id.0 id.0
 task_least nodes (tasks.Operate o k) = omega arith
-

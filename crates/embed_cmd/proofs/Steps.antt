@@ -35,7 +35,7 @@ value_step nodes b answer ts v xs old new is shown fits more =
       todos = ts;
       shown = shown;
       fits = subst (Fits ts) (sym long) fits;
-      gives = ap (λ r. and_then r (λ w. perform b ts (w ∷ reverse old))) is
+      gives = ap (λ r. and_then r (λ w. perform b ts (w ∷ reverse old))) is;
     })
 
 -- a refusal ends the evaluation
@@ -52,7 +52,7 @@ chain_step nodes b e ts id left last old new vs n reads shown fits long is =
       todos = reads.todos ++ ts;
       shown = show_append nodes reads.todos ts (chain_tasks left last) old reads.shown shown;
       fits = subst (Fits (reads.todos ++ ts)) long (reads.fits ts n fits);
-      gives = sym (reads.unrolls ts vs)
+      gives = sym (reads.unrolls ts vs);
     })
 
 -- the tasks are fewer after a chain's step

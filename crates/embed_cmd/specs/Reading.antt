@@ -34,3 +34,8 @@ OnRead _ P = Unit {0}
 abbrev pub UnlessRead : {A : Type 0} → Result A Fault → Type 0 → Type 0
 UnlessRead (Err faults.Read) P = Unit {0}
 UnlessRead _ P = P
+
+-- how a transcript can end
+abbrev pub IsTranscriptEnd : Status → Type 0
+IsTranscriptEnd statuses.Usage = Unit {0}
+IsTranscriptEnd status = IsScriptEnd status

@@ -52,11 +52,7 @@ fn named_value(names: &Names, name: &PlainString, place: u32) -> Result<Value, S
 }
 
 /// Puts the tasks of a chain on top: its operands, each but the first followed by the operator before it.
-fn push_chain(
-    tasks: &mut Vec<Task>,
-    left: &[Operand],
-    last: NodeId,
-) -> Result<(), AllocError>
+fn push_chain(tasks: &mut Vec<Task>, left: &[Operand], last: NodeId) -> Result<(), AllocError>
     ensures { OnOk result (top_first tasks.new ≡ chain_tasks left.now last ++ top_first tasks.old) }
 {
     let mut next = last;
@@ -131,13 +127,7 @@ impl Evaluation {
     }
 
     /// Takes the next task.
-    fn step(
-        &mut self,
-        alloc: Global,
-        nodes: &[Node],
-        names: &Names,
-        task: Task,
-    ) -> Result<(), Stop>
+    fn step(&mut self, alloc: Global, nodes: &[Node], names: &Names, task: Task) -> Result<(), Stop>
         requires { (t : Todo) × (ts : List Todo) × TodosShow nodes.now (t ∷ ts) (task ∷ top_first self.old.tasks) × Fits (t ∷ ts) (length self.old.values.items) }
         ensures steps { (b : Bindings) → IsBoundAs b names.now → (t : Todo) (ts : List Todo) → TodosShow nodes.now (t ∷ ts) (task ∷ top_first self.old.tasks) → Fits (t ∷ ts) (length self.old.values.items) → Steps result nodes.now b (perform b (t ∷ ts) (top_first self.old.values)) self.new.tasks self.new.values }
         ensures smaller { OnOk result (tasks_size nodes.now (top_first self.new.tasks) < task_size nodes.now task + tasks_size nodes.now (top_first self.old.tasks)) }

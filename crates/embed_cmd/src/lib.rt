@@ -11,3 +11,6 @@ mod transcript;
 mod value;
 mod words;
 mod write;
+
+pub use main_run::run_main;
+pub use transcript::Transcript;

@@ -1,15 +1,16 @@
-ghost use Rattle.std.specs.Prelude.{◌≡◌, ℕ, List, ◌++◌, ◌<◌, ◌≤◌, Some, None, Ok, Err, OnOk, OnErr, IfOk, IfErr, IfSome, map, string_bytes, take, length, IsSomeAnd, MatchOption};
+ghost use Rattle.std.specs.Prelude.{◌⊎◌, ◌≡◌, ℕ, List, ◌++◌, ◌<◌, ◌≤◌, Some, None, Ok, Err, OnOk, OnErr, IfOk, IfErr, IfSome, map, string_bytes, take, length, IsSomeAnd, MatchOption};
 ghost use Rattle.embed_base.specs.Counts.{Rose, RoseByMore};
 ghost use Rattle.embed_base.specs.Answers.{OnFailedWrite, UnlessFailedWrite};
-ghost use Rattle.embed_cmd.specs.Words.{command_of};
+ghost use Rattle.embed_cmd.specs.Words.{command_of, texts_of};
 ghost use Rattle.host_parser.specs.Grammar as grammar;
 ghost use Rattle.embed_cmd.specs.Transcript.{IsScriptText, IsTheScriptTranscript, IsTheFileTranscript, IsTheTranscript, TellsAll, Asks, Contents, most_script_bytes, too_long, refused, usage};
-ghost use Rattle.embed_cmd.specs.Reading.{IsTree, IsScriptEnd, OnRead, UnlessRead};
-ghost use Rattle.embed_cmd.specs.Headline.{with_more, OnTooLongStatus};
+ghost use Rattle.embed_cmd.specs.Reading.{IsTree, IsScriptEnd, IsTranscriptEnd, OnRead, UnlessRead};
+ghost use Rattle.embed_cmd.specs.Headline.{with_more, OnEnd, OnReadFault, OnWriteFault, OnNoMemory, OnUsage, OnTooLongStatus, UnlessReadFault, UnlessWriteFault, WritesAll, WritesPrefix, IsReadFault, IsUntoldTooLong};
 
 use crate::run::run_script;
 use crate::transcript::Transcript;
 use crate::words::asked_script;
+use crate::write::write_whole;
 use embed_base::limits::MOST_SCRIPT_BYTES;
 use embed_base::{FileError, Files, PlainString, Sink, SinkError, Status};
 use host_lexer::{LexError, tokens};
@@ -104,11 +105,7 @@ fn script_transcript(alloc: Global, bytes: &[u8]) -> Result<Transcript, AllocErr
 }
 
 /// The transcript of a script's file.
-fn file_transcript<F: Files>(
-    alloc: Global,
-    files: &mut F,
-    path: &str,
-) -> Result<Transcript, Fault>
+fn file_transcript<F: Files>(alloc: Global, files: &mut F, path: &str) -> Result<Transcript, Fault>
     ensures exact { IfOk result (λ t. IfSome (F.content files.old path.now) (λ bytes. IsTheFileTranscript path.now bytes t)) }
     ensures end { IfOk result (λ t. IsScriptEnd t.status) }
     ensures untold { IfOk result (λ t. OnTooLongStatus t.status (F.content files.old path.now ≡ None → RoseByMore (F.taken files.old) (F.taken files.new) most_script_bytes)) }
@@ -126,5 +123,90 @@ fn file_transcript<F: Files>(
         Err(FileError::TooLong) => Ok(too_long(alloc, path)?),
         Err(FileError::Failed) => Err(Fault::Read),
         Err(FileError::NoMemory) => Err(Fault::NoMemory),
+    }
+}
+
+/// The transcript of a command line.
+fn command_transcript<F: Files>(
+    alloc: Global,
+    words: &[String],
+    files: &mut F,
+) -> Result<Transcript, Fault>
+    ensures exact { IfOk result (λ t. TellsAll (texts_of words.now) (F.content files.old) → IsTheTranscript (texts_of words.now) (F.content files.old) t) }
+    ensures end { IfOk result (λ t. IsTranscriptEnd t.status) }
+    ensures usage_only { IfOk result (λ t. OnUsage t.status (command_of (texts_of words.now) ≡ None)) }
+    ensures untold { IfOk result (λ t. OnTooLongStatus t.status (IsUntoldTooLong (texts_of words.now) (F.content files.old) (F.taken files.old) (F.taken files.new))) }
+
+    ensures read { OnRead result (IsReadFault (texts_of words.now) (F.faults files.old) (F.faults files.new) (F.failed files.new)) }
+    ensures rose_read { UnlessRead result (¬ (F.faults files.old < F.faults files.new)) }
+    ensures failed_stays { UnlessRead result (F.failed files.new ≡ F.failed files.old) }
+
+    ensures contents_stay { (name : List ℕ) → F.content files.new name ≡ F.content files.old name }
+    ensures untouched { command_of (texts_of words.now) ≡ None → files.new ≡ files.old }
+{
+    match asked_script(words) {
+        None => Ok(usage(alloc)?),
+        Some(path) => file_transcript(alloc, files, path),
+    }
+}
+
+/// Writes a transcript, and tells its status or why it wasn't written whole.
+fn deliver<O: Sink>(alloc: Global, out: &mut O, transcript: &Transcript) -> Status
+    requires { IsTranscriptEnd transcript.now.status }
+    ensures ended { OnEnd result ((result ≡ transcript.now.status) × (O.written out.new ≡ with_more (O.written out.old) transcript.now.text)) }
+    ensures cut { OnWriteFault result ((size : ℕ) × (O.written out.new ≡ with_more (O.written out.old) (take size transcript.now.text))) }
+    ensures starved { OnNoMemory result ((size : ℕ) × (O.written out.new ≡ with_more (O.written out.old) (take size transcript.now.text))) }
+    ensures no_read { OnReadFault result ⊥ }
+
+    ensures write_rose { OnWriteFault result (Rose (O.faults out.old) (O.faults out.new)) }
+    ensures rose_write { UnlessWriteFault result (¬ (O.faults out.old < O.faults out.new)) }
+{
+    match write_whole(alloc, out, transcript.text.as_str().as_bytes()) {
+        Ok(()) => transcript.status,
+        Err(SinkError::Failed) => Status::WriteFault,
+        Err(SinkError::NoMemory) => Status::NoMemory,
+    }
+}
+
+/// All that the program does: reads the words, reads the script's file, runs the script, and writes the transcript to
+/// the output. The status is that of the transcript, or tells which fault or want of memory ended the run before.
+pub fn run_main<F: Files, O: Sink>(
+    alloc: Global,
+    words: &[String],
+    files: &mut F,
+    out: &mut O,
+) -> Status
+    // The program writes exactly the transcript of its command line, and ends with its status.
+    ensures exact { TellsAll (texts_of words.now) (F.content files.old) → OnEnd result (WritesAll (texts_of words.now) (F.content files.old) result (O.written out.old) (O.written out.new)) }
+    ensures complete { TellsAll (texts_of words.now) (F.content files.old) → ¬ Rose (F.faults files.old) (F.faults files.new) → ¬ Rose (O.faults out.old) (O.faults out.new) → (result ≡ Status.NoMemory) ⊎ WritesAll (texts_of words.now) (F.content files.old) result (O.written out.old) (O.written out.new) }
+
+    // Where a fault or want of memory stops it earlier, it has written a prefix of the transcript, or nothing.
+    ensures read_fault { OnReadFault result (O.written out.new ≡ O.written out.old) }
+    ensures write_fault { TellsAll (texts_of words.now) (F.content files.old) → OnWriteFault result (WritesPrefix (texts_of words.now) (F.content files.old) (O.written out.old) (O.written out.new)) }
+    ensures no_memory { TellsAll (texts_of words.now) (F.content files.old) → OnNoMemory result ((O.written out.new ≡ O.written out.old) ⊎ WritesPrefix (texts_of words.now) (F.content files.old) (O.written out.old) (O.written out.new)) }
+
+    // A read fault comes only where one was counted, for a path that was asked for, and always where one was counted.
+    ensures read_cause { OnReadFault result (IsReadFault (texts_of words.now) (F.faults files.old) (F.faults files.new) (F.failed files.new)) }
+    ensures read_always { UnlessReadFault result (¬ (F.faults files.old < F.faults files.new)) }
+    ensures failed_stays { UnlessReadFault result (F.failed files.new ≡ F.failed files.old) }
+
+    // A write fault comes only where one was counted, and always where one was counted.
+    ensures write_cause { OnWriteFault result (Rose (O.faults out.old) (O.faults out.new)) }
+    ensures write_always { UnlessWriteFault result (¬ (O.faults out.old < O.faults out.new)) }
+
+    // Words that are no command line are refused without a look at the files, whether they tell anything or not.
+    ensures usage_only { OnUsage result (command_of (texts_of words.now) ≡ None) }
+    ensures usage_reads_nothing { command_of (texts_of words.now) ≡ None → files.new ≡ files.old }
+
+    // A content that isn't told is too long only where more was taken than its limit.
+    ensures untold_too_long { OnTooLongStatus result (IsUntoldTooLong (texts_of words.now) (F.content files.old) (F.taken files.old) (F.taken files.new)) }
+
+    // What the files tell stays.
+    ensures contents_stay { (name : List ℕ) → F.content files.new name ≡ F.content files.old name }
+{
+    match command_transcript(alloc, words, files) {
+        Ok(transcript) => deliver(alloc, out, &transcript),
+        Err(Fault::Read) => Status::ReadFault,
+        Err(Fault::NoMemory) => Status::NoMemory,
     }
 }

@@ -7,5 +7,5 @@ abbrev pub invariant-loop : goal.invariant-loop
 invariant-loop g l = record {
   counted : min (l.fn.taken + length l.into.items) last_count ≤ l.taken;
   within : length l.into.items ≤ l.limit;
-  stays : l.fn.taken ≤ l.taken
+  stays : l.fn.taken ≤ l.taken;
 }

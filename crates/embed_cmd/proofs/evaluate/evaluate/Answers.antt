@@ -12,29 +12,29 @@ use Rattle.embed_cmd.proofs.evaluate.evaluate.Goals as goal
 pub loop-task-init : goal.loop-task-init
 loop-task-init c = λ b bound e shows.
     begun c.args.nodes.now b e c.args.id c.push.new.self.items c.new-2.result.items shows
-        (c.in_ok-push.ensures.items ∙ ap (λ xs. xs ++ tasks.Evaluate c.args.id ∷ []) c.new.ensures.items) c.new-2.ensures.items
+    (c.in_ok-push.ensures.items ∙ ap (λ xs. xs ++ tasks.Evaluate c.args.id ∷ []) c.new.ensures.items) c.new-2.ensures.items
 
 pub step-requires : goal.step-requires
 step-requires c =
     let b = λ (name : List ℕ). get_by_text c.args.names.now name in
     let n = next c.args.nodes.now b (sum_value b c.requires.0) c.in-Some.task c.loop-task.evaluation.tasks.items c.pop.new.self.items c.loop-task.evaluation.values.items
-        (c.loop-task.invariant b (λ name. refl) c.requires.0 c.requires.1) c.in-Some.ensures.items in
+    (c.loop-task.invariant b (λ name. refl) c.requires.0 c.requires.1) c.in-Some.ensures.items in
     (n.todo, n.rest, n.shown, n.fits)
 
 pub loop-task-preserved : goal.loop-task-preserved
 loop-task-preserved c = λ b bound e shows.
     let n = next c.args.nodes.now b (sum_value b e) c.in-Some.task c.loop-task.evaluation.tasks.items c.pop.new.self.items c.loop-task.evaluation.values.items
-        (c.loop-task.invariant b bound e shows) c.in-Some.ensures.items in
+    (c.loop-task.invariant b bound e shows) c.in-Some.ensures.items in
     goes_on c.args.nodes.now b (sum_value b e) (perform b (n.todo ∷ n.rest) (top_first c.loop-task.evaluation.values)) (top_first c.step.new.self.tasks) (top_first c.step.new.self.values)
-        n.gives (c.in_ok-step.ensures.steps b bound n.todo n.rest n.shown n.fits)
+    n.gives (c.in_ok-step.ensures.steps b bound n.todo n.rest n.shown n.fits)
 
 pub returns-in_err-step : goal.returns-in_err-step
 returns-in_err-step c = λ b bound e shows.
     let p = err_from_is_err_and c.from_residual-in_err-step.result c.from_residual-in_err-step.ensures.1 in
     let n = next c.args.nodes.now b (sum_value b e) c.in-Some.task c.loop-task.evaluation.tasks.items c.pop.new.self.items c.loop-task.evaluation.values.items
-        (c.loop-task.invariant b bound e shows) c.in-Some.ensures.items in
+    (c.loop-task.invariant b bound e shows) c.in-Some.ensures.items in
     rw (p.1, p.2) (stops_so c.in_err-step.field-0.0 c.args.nodes.now b (sum_value b e) (perform b (n.todo ∷ n.rest) (top_first c.loop-task.evaluation.values)) c.step.new.self.tasks c.step.new.self.values
-        n.gives (c.in_err-step.ensures.steps b bound n.todo n.rest n.shown n.fits))
+    n.gives (c.in_err-step.ensures.steps b bound n.todo n.rest n.shown n.fits))
 
 pub unwrap-requires : goal.unwrap-requires
 unwrap-requires c =

@@ -8,5 +8,5 @@ loop-at-preserved c = record {
   within = omega arith;
   tasks = pushed c.args.left.now c.loop-at.at (c.loop-at.at - 1) (record { node = record { 0 = 0 }; operator = operators.Plus; place = 0 }) c.loop-at.next
       c.loop-at.tasks.items c.push.new.self.items c.push-in-loop-at.new.self.items
-      (omega arith) (omega arith) c.in_ok-push.ensures.items c.in_ok-push-2.ensures.items ∙ c.loop-at.invariant.tasks
+      (omega arith) (omega arith) c.in_ok-push.ensures.items c.in_ok-push-2.ensures.items ∙ c.loop-at.invariant.tasks;
 }

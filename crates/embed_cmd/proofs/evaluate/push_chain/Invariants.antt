@@ -6,7 +6,7 @@ use Rattle.embed_cmd.proofs.evaluate.push_chain.Given as goal
 abbrev pub invariant-loop-at : goal.invariant-loop-at
 invariant-loop-at l = record {
   within : l.at ≤ length l.left;
-  tasks : chain_tasks (take l.at l.left) l.next ++ top_first l.tasks ≡ chain_tasks l.left l.fn.last ++ top_first l.initial.tasks
+  tasks : chain_tasks (take l.at l.left) l.next ++ top_first l.tasks ≡ chain_tasks l.left l.fn.last ++ top_first l.initial.tasks;
 }
 
 abbrev pub decreases-loop-at : goal.decreases-loop-at

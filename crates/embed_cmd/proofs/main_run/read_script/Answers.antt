@@ -20,12 +20,12 @@ returns-in-Ok-parse c =
         utf8 = c.in-Ok.ensures.cases.1;
         tokens = c.in-Ok-tokens.tokens.items;
         split = subst (λ x. HasTokens x c.in-Ok-tokens.tokens.items) c.in-Ok.ensures.cases.0 c.in-Ok-tokens.ensures.found;
-        parse = subst (λ ts. IsScript ts found.0) c.as_slice.ensures.value found.1
+        parse = subst (λ ts. IsScript ts found.0) c.as_slice.ensures.value found.1;
       };
       shown = found.2;
       all = λ other h.
           let split = subst (λ x. HasTokens x h.tokens) (sym c.in-Ok.ensures.cases.0) h.split in
-          c.in-Ok-parse.ensures.only other (subst (λ ts. IsScript ts other) (sym (c.as_slice.ensures.value ∙ c.in-Ok-tokens.ensures.only h.tokens split)) h.parse)
+          c.in-Ok-parse.ensures.only other (subst (λ ts. IsScript ts other) (sym (c.as_slice.ensures.value ∙ c.in-Ok-tokens.ensures.only h.tokens split)) h.parse);
     }
 
 pub returns-in-Err-NotYet-parse : goal.returns-in-Err-NotYet-parse

@@ -12,13 +12,13 @@ loop-index-preserved c =
     let v = c.index-values-index.result in
     let before = string_bytes c.args.text.now in
     elim c.if-index-gt0.branch [
-      then-index-gt0+in_ok-push_str w ↦
+      | then-index-gt0+in_ok-push_str w ↦
           let next = line_next vs i v (omega arith) (omega arith) c.index-values-index.is in
           c.in_ok-show.ensures ∙ ap (λ t. string_bytes t ++ shown_of v) w.text-is ∙ ap (λ t. t ++ shown_of v) w.in_ok-push_str.ensures.bytes
           ∙ ap (λ t. (t ++ 32 ∷ []) ++ shown_of v) c.loop-index.invariant
           ∙ append_assoc (before ++ line_of (take i vs)) (32 ∷ []) (shown_of v) ∙ append_assoc before (line_of (take i vs)) (32 ∷ shown_of v)
           ∙ ap (λ t. before ++ t) (sym next)
-    | else-index-gt0 w ↦
+      | else-index-gt0 w ↦
           let next = line_first vs i v (omega arith) (omega arith) c.index-values-index.is in
           c.in_ok-show.ensures ∙ ap (λ t. string_bytes t ++ shown_of v) w.text-is ∙ ap (λ t. t ++ shown_of v) c.loop-index.invariant
           ∙ append_assoc before (line_of (take i vs)) (shown_of v) ∙ ap (λ t. before ++ t) (sym next)

@@ -17,14 +17,14 @@ returns-in-Err c = λ d shows.
     let left = c.loop-id.invariant d shows in
     let f = first_left c.args.nodes.now d c.args.ids.now c.loop-id.id-index (record { 0 = 0 }) c.loop-id.run c.loop-id-test.true left in
     c.stopped.ensures (run_of d) (stopped_left d c.perform.new.self c.in-Err.stop (performed (going left.bindings left.lines) f.first) f.rest
-        (c.in-Err.ensures left.bindings left.lines left.is_bound left.printed f.first f.first_shown) f.gives)
+    (c.in-Err.ensures left.bindings left.lines left.is_bound left.printed f.first f.first_shown) f.gives)
 
 pub loop-id-preserved : goal.loop-id-preserved
 loop-id-preserved c = λ d shows.
     let left = c.loop-id.invariant d shows in
     let f = first_left c.args.nodes.now d c.args.ids.now c.loop-id.id-index (record { 0 = 0 }) c.loop-id.run c.loop-id-test.true left in
     performed_left c.args.nodes.now d _ c.perform.new.self (performed (going left.bindings left.lines) f.first) f.rest
-        (c.in-Ok.ensures left.bindings left.lines left.is_bound left.printed f.first f.first_shown) f.rest_shown f.gives
+    (c.in-Ok.ensures left.bindings left.lines left.is_bound left.printed f.first f.first_shown) f.rest_shown f.gives
 
 pub returns : goal.returns
 returns c = λ d shows.

@@ -7,7 +7,7 @@ abbrev pub invariant-loop-at : goal.invariant-loop-at
 invariant-loop-at g l = record {
   within : l.at ≤ length l.bytes;
   written : g.O.Sink.written l.out ≡ with_more (g.O.Sink.written l.initial.out) (take l.at l.bytes);
-  sound : g.O.Sink.faults l.out ≡ g.O.Sink.faults l.initial.out
+  sound : g.O.Sink.faults l.out ≡ g.O.Sink.faults l.initial.out;
 }
 
 abbrev pub decreases-loop-at : goal.decreases-loop-at

@@ -18,5 +18,5 @@ returns-clause-steps c = λ nodes b ts todos fits.
     let long : length old ≡ suc (suc (length rest)) = omega (arith, ap length first, ap length second, length-append mid (right ∷ []), length-append rest (left ∷ [])) in
     let enough = subst (Fits (applies c.args.operator c.args.place ∷ ts)) long fits in
     subst (λ vs. Steps c.give.result nodes b (applied c.args.operator c.args.place vs (perform b ts)) c.give.new.self.tasks c.give.new.self.values)
-        (sym (two_on_top old mid rest left right first second))
-        (c.give.ensures.steps nodes b (operated c.args.operator c.args.place left right) ts c.operate.ensures todos enough)
+    (sym (two_on_top old mid rest left right first second))
+    (c.give.ensures.steps nodes b (operated c.args.operator c.args.place left right) ts c.operate.ensures todos enough)

@@ -20,26 +20,27 @@ offset_bounds-nodes-id c = let within : c.args.id.0 < length c.args.nodes.now = 
 pub unreachable-requires : goal.unreachable-requires
 unreachable-requires c =
     elim c.in-Let.is [
-      inl w ↦ read_form (λ name. None) c.requires.0 c.args.nodes.now c.args.id.0 c.index-nodes-id.result _ c.requires.1 c.index-nodes-id.is w.2
-    | inr w ↦ read_form (λ name. None) c.requires.0 c.args.nodes.now c.args.id.0 c.index-nodes-id.result _ c.requires.1 c.index-nodes-id.is w.1 ]
+      | inl w ↦ read_form (λ name. None) c.requires.0 c.args.nodes.now c.args.id.0 c.index-nodes-id.result _ c.requires.1 c.index-nodes-id.is w.2
+      | inr w ↦ read_form (λ name. None) c.requires.0 c.args.nodes.now c.args.id.0 c.index-nodes-id.result _ c.requires.1 c.index-nodes-id.is w.1
+    ]
 
 pub returns-in_ok-push_chain-in-Chain-clause-steps : goal.returns-in_ok-push_chain-in-Chain-clause-steps
 returns-in_ok-push_chain-in-Chain-clause-steps c = λ b bound e shows ts todos fits.
     chain_step c.args.nodes.now b e ts c.args.id.0 c.in-Chain.left c.in-Chain.last (top_first c.args.self.now.tasks) (top_first c.push_chain.new.tasks) (top_first c.args.self.now.values) (length c.args.self.now.values.items)
-        (read_form b e c.args.nodes.now c.args.id.0 c.index-nodes-id.result _ shows c.index-nodes-id.is c.in-Chain.is) todos fits (sym (length-reverse c.args.self.now.values.items))
-        (c.in_ok-push_chain-in-Chain.ensures ∙ ap (λ l. chain_tasks l c.in-Chain.last ++ top_first c.args.self.now.tasks) c.as_slice.ensures)
+    (read_form b e c.args.nodes.now c.args.id.0 c.index-nodes-id.result _ shows c.index-nodes-id.is c.in-Chain.is) todos fits (sym (length-reverse c.args.self.now.values.items))
+    (c.in_ok-push_chain-in-Chain.ensures ∙ ap (λ l. chain_tasks l c.in-Chain.last ++ top_first c.args.self.now.tasks) c.as_slice.ensures)
 
 pub returns-in_ok-push_chain-in-Chain-clause-smaller : goal.returns-in_ok-push_chain-in-Chain-clause-smaller
 returns-in_ok-push_chain-in-Chain-clause-smaller c =
     chain_shrinks c.args.nodes.now (λ name. None) c.args.id.0 (sum_value (λ name. None) c.requires.0) c.index-nodes-id.result c.in-Chain.left c.in-Chain.last (top_first c.args.self.now.tasks) (top_first c.push_chain.new.tasks)
-        (slice_get_read c.args.nodes.now (length c.args.nodes.now) c.args.id.0 c.index-nodes-id.result refl (sum_in_range c.requires.0 c.args.nodes.now c.args.id.0 c.requires.1) c.index-nodes-id.is)
-        c.in-Chain.is (read_form (λ name. None) c.requires.0 c.args.nodes.now c.args.id.0 c.index-nodes-id.result _ c.requires.1 c.index-nodes-id.is c.in-Chain.is)
-        (c.in_ok-push_chain-in-Chain.ensures ∙ ap (λ l. chain_tasks l c.in-Chain.last ++ top_first c.args.self.now.tasks) c.as_slice.ensures)
+    (slice_get_read c.args.nodes.now (length c.args.nodes.now) c.args.id.0 c.index-nodes-id.result refl (sum_in_range c.requires.0 c.args.nodes.now c.args.id.0 c.requires.1) c.index-nodes-id.is)
+    c.in-Chain.is (read_form (λ name. None) c.requires.0 c.args.nodes.now c.args.id.0 c.index-nodes-id.result _ c.requires.1 c.index-nodes-id.is c.in-Chain.is)
+    (c.in_ok-push_chain-in-Chain.ensures ∙ ap (λ l. chain_tasks l c.in-Chain.last ++ top_first c.args.self.now.tasks) c.as_slice.ensures)
 
 pub returns-in-Number-clause-steps : goal.returns-in-Number-clause-steps
 returns-in-Number-clause-steps c = λ b bound e shows ts todos fits.
     c.give.ensures.steps c.args.nodes.now b (sum_value b e) ts
-        (meets_same c.literal.result _ (sum_value b e) (read_form b e c.args.nodes.now c.args.id.0 c.index-nodes-id.result _ shows c.index-nodes-id.is c.in-Number.is) c.literal.ensures) todos fits
+    (meets_same c.literal.result _ (sum_value b e) (read_form b e c.args.nodes.now c.args.id.0 c.index-nodes-id.result _ shows c.index-nodes-id.is c.in-Number.is) c.literal.ensures) todos fits
 
 pub returns-in-Number-clause-smaller : goal.returns-in-Number-clause-smaller
 returns-in-Number-clause-smaller c =
@@ -49,7 +50,7 @@ returns-in-Number-clause-smaller c =
 pub returns-in-Text-clause-steps : goal.returns-in-Text-clause-steps
 returns-in-Text-clause-steps c = λ b bound e shows ts todos fits.
     c.give-in-Text.ensures.steps c.args.nodes.now b (sum_value b e) ts
-        (meets_same c.text_value.result _ (sum_value b e) (read_form b e c.args.nodes.now c.args.id.0 c.index-nodes-id.result _ shows c.index-nodes-id.is c.in-Text.is) c.text_value.ensures) todos fits
+    (meets_same c.text_value.result _ (sum_value b e) (read_form b e c.args.nodes.now c.args.id.0 c.index-nodes-id.result _ shows c.index-nodes-id.is c.in-Text.is) c.text_value.ensures) todos fits
 
 pub returns-in-Text-clause-smaller : goal.returns-in-Text-clause-smaller
 returns-in-Text-clause-smaller c =
@@ -59,7 +60,7 @@ returns-in-Text-clause-smaller c =
 pub returns-in-Name-clause-steps : goal.returns-in-Name-clause-steps
 returns-in-Name-clause-steps c = λ b bound e shows ts todos fits.
     c.give-in-Name.ensures.steps c.args.nodes.now b (sum_value b e) ts
-        (meets_same c.named_value.result _ (sum_value b e) (read_form b e c.args.nodes.now c.args.id.0 c.index-nodes-id.result _ shows c.index-nodes-id.is c.in-Name.is) (c.named_value.ensures b bound)) todos fits
+    (meets_same c.named_value.result _ (sum_value b e) (read_form b e c.args.nodes.now c.args.id.0 c.index-nodes-id.result _ shows c.index-nodes-id.is c.in-Name.is) (c.named_value.ensures b bound)) todos fits
 
 pub returns-in-Name-clause-smaller : goal.returns-in-Name-clause-smaller
 returns-in-Name-clause-smaller c =

@@ -1,0 +1,1 @@
+let a = 6; print("a", a * 7);
