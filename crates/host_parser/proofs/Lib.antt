@@ -1,0 +1,4 @@
+pub mod Complete
+pub mod Fine
+pub mod Known
+pub mod Sound
