@@ -1,4 +1,7 @@
+pub mod Closes
 pub mod Complete
 pub mod Fine
+pub mod Grow
 pub mod Known
 pub mod Sound
+pub mod Steps
