@@ -3,5 +3,6 @@ pub mod Complete
 pub mod Fine
 pub mod Grow
 pub mod Known
+pub mod Main
 pub mod Sound
 pub mod Steps

@@ -2,7 +2,9 @@
 #![tactic(auto)]
 
 mod chain;
+mod parser;
 mod reader;
 mod script;
 
+pub use parser::parse;
 pub use script::{Form, Node, NodeId, Operand, Operator, ParseError, Script};
