@@ -3,14 +3,13 @@ use Rattle.std.specs.Prelude.{◌≡◌, ℕ, ◌+◌, ◌<◌, ◌≤◌, List,
 use Rattle.std.specs.Str.{bytes_eq}
 use Rattle.std.proofs.Common.{sym, ◌∙◌, ap, arith}
 use Rattle.std.proofs.lemmas.Bool.Decides.{nat_tests}
-use Rattle.std.proofs.lemmas.Slice.Eq.{bytes_eq-Decides}
 use Rattle.host_lexer.specs.declared.token.Word.TheVariants as words
 use Rattle.host_lexer.specs.declared.token.Mark.TheVariants as marks
 use Rattle.host_lexer.specs.declared.token.TokenKind.{TokenKind}
 use Rattle.host_lexer.specs.declared.token.TokenKind.TheVariants as kinds
 use Rattle.host_parser.specs.Grammar.{Additive, plus, minus, Sum, product, added, Product, factor, times, Factor, number, text, name, parens, Listed, single, comma, Arguments, none, listed, Script, nothing, declaration, printing, Sign, at, additive_mark, sum_then, product_then, factor_then, listed_then, arguments_then, script_then, print_name, declared_by, most_open, sum_depth, product_depth, factor_depth, listed_depth, arguments_depth, SumUses, ProductUses, FactorUses, ListedUses, ArgumentsUse, IsFine}
 use Rattle.host_parser.specs.Machine.{BeforeSum, no_sum, sum_before, BeforeProduct, no_product, product_before, BeforeListed, no_listed, listed_before, Level, level, fresh, Outer, in_let, in_print, in_parens, State, items, let_begun, let_named, print_begun, argument, printed, want, have, product_with, sum_with, listed_with, sum_of, script_of, open_in, is_known, named, opened, wanted, closed, parted, ended, marked, had, next_item, let_name, let_value, print_opened, argued, print_ended, step, run}
-use Rattle.host_parser.proofs.Known.{contains_known, known_contains}
+use Rattle.host_parser.proofs.Known.{contains_known, lacks_known, other_bytes}
 
 -- the last operand of a chain, and what stands before it
 abbrev pub before_last : Product → BeforeProduct
@@ -114,21 +113,11 @@ run_arguments : (a : Arguments) (s : Script) (p o c : ℕ) (y : List Sign) → A
 run_arguments none s p o c y u d = refl
 run_arguments (listed l) s p o c y u d = run_listed l s p o (at (kinds.Mark marks.Close) c ∷ y) u d ∙ rw (sum_again (last_listed l), listed_again l, run) refl
 
-not_true : (b : Bool) → (b ≡ true → ⊥) → b ≡ false
-not_true true h = absurd (h refl)
-not_true false h = refl
-
-new_name : (known : List (List ℕ)) (w : List ℕ) → (¬ Contains known w) → is_known known w ≡ false
-new_name known w h = not_true (is_known known w) (λ e. h (known_contains known w e))
-
-not_print : (w : List ℕ) → (¬ (w ≡ print_name)) → bytes_eq w print_name ≡ false
-not_print w h = not_true (bytes_eq w print_name) (λ e. h ((bytes_eq-Decides w print_name).0 e))
-
 pub run_script : (d : Script) (y : List Sign) → IsFine d → run (items nothing) (script_then d y) ≡ run (items d) y
 run_script nothing y h = refl
 run_script (declaration s l w n q e c) y h =
     run_script s (at (kinds.Word words.Let) l ∷ at (kinds.Name w) n ∷ at (kinds.Mark marks.Equals) q ∷ sum_then e (at (kinds.Mark marks.Semicolon) c ∷ y)) h.0
-    ∙ rw (not_print w h.2, new_name (declared_by s) w h.1, run) (run_sum e (in_let s l w n q) (at (kinds.Mark marks.Semicolon) c ∷ y) h.3 (omega arith) ∙ rw (sum_again e, run) refl)
+    ∙ rw (other_bytes w print_name h.2, lacks_known (declared_by s) w h.1, run) (run_sum e (in_let s l w n q) (at (kinds.Mark marks.Semicolon) c ∷ y) h.3 (omega arith) ∙ rw (sum_again e, run) refl)
 run_script (printing s p o a c e) y h =
     run_script s (at (kinds.Name print_name) p ∷ at (kinds.Mark marks.Open) o ∷ arguments_then a (at (kinds.Mark marks.Close) c ∷ at (kinds.Mark marks.Semicolon) e ∷ y)) h.0
     ∙ run_arguments a s p o c (at (kinds.Mark marks.Semicolon) e ∷ y) h.1 h.2

@@ -3,7 +3,6 @@ use Rattle.std.specs.Prelude.{◌≡◌, ℕ, ◌+◌, ◌<◌, ◌≤◌, List,
 use Rattle.std.specs.Str.{bytes_eq}
 use Rattle.std.proofs.Common.{sym, ◌∙◌, ap, arith, subst}
 use Rattle.std.proofs.lemmas.Bool.Decides.{nat_tests}
-use Rattle.std.proofs.lemmas.Slice.Eq.{bytes_eq-Decides}
 use Rattle.host_lexer.specs.declared.token.Word.TheVariants as words
 use Rattle.host_lexer.specs.declared.token.Mark.{Mark}
 use Rattle.host_lexer.specs.declared.token.Mark.TheVariants as marks
@@ -11,7 +10,7 @@ use Rattle.host_lexer.specs.declared.token.TokenKind.{TokenKind}
 use Rattle.host_lexer.specs.declared.token.TokenKind.TheVariants as kinds
 use Rattle.host_parser.specs.Grammar.{Additive, plus, minus, Sum, product, added, Product, factor, times, Factor, number, text, name, parens, Listed, single, comma, Arguments, none, listed, Script, nothing, declaration, printing, Sign, print_name, declared_by, most_open, sum_depth, product_depth, factor_depth, listed_depth, arguments_depth, SumUses, ProductUses, FactorUses, ListedUses, ArgumentsUse, IsFine}
 use Rattle.host_parser.specs.Machine.{BeforeSum, no_sum, sum_before, BeforeProduct, no_product, product_before, BeforeListed, no_listed, listed_before, Level, level, fresh, Outer, in_let, in_print, in_parens, State, items, let_begun, let_named, print_begun, argument, printed, want, have, product_with, sum_with, listed_with, sum_of, script_of, open_in, is_known, named, opened, wanted, closed, parted, ended, marked, had, next_item, let_name, let_value, print_opened, argued, print_ended, step, run}
-use Rattle.host_parser.proofs.Known.{known_contains, contains_known}
+use Rattle.host_parser.proofs.Known.{known_contains, known_lacks, other_text}
 
 -- among these names and under so many parentheses
 abbrev pub SumFits : List (List ℕ) → ℕ → Sum → Type 0
@@ -151,7 +150,7 @@ let_name_fine s l k (kinds.Name w) h = on (bytes_eq w print_name) (is_known (dec
     on : (b c : Bool) → bytes_eq w print_name ≡ b → is_known (declared_by s) w ≡ c → IfFine (cond b None (cond c None (Some (let_named s l w k))))
     on true c e g = tt
     on false true e g = tt
-    on false false e g = (h, ((λ i. (let q : is_known (declared_by s) w ≡ true = contains_known (declared_by s) w i in cc)), (λ i. (let q : bytes_eq w print_name ≡ true = (bytes_eq-Decides w print_name).1 i in cc))))
+    on false false e g = (h, (known_lacks (declared_by s) w g, other_text w print_name e))
 let_name_fine s l k _ h = tt
 
 let_value_fine : (s : Script) (l : ℕ) (w : List ℕ) (n k : ℕ) (t : TokenKind) → StateFine (let_named s l w n) → IfFine (let_value s l w n k t)

@@ -26,3 +26,22 @@ contains_known (v ∷ known) w (suc k, lt, e) = on (bytes_eq v w) (contains_know
     on : (b : Bool) → is_known known w ≡ true → cond b true (is_known known w) ≡ true
     on true f = refl
     on false f = f
+
+not_true : (b : Bool) → (b ≡ true → ⊥) → b ≡ false
+not_true true h = absurd (h refl)
+not_true false h = refl
+
+-- a name that isn't there isn't found
+pub lacks_known : (known : List (List ℕ)) (w : List ℕ) → (¬ Contains known w) → is_known known w ≡ false
+lacks_known known w h = not_true (is_known known w) (λ e. h (known_contains known w e))
+
+-- a name that isn't found isn't there
+pub known_lacks : (known : List (List ℕ)) (w : List ℕ) → is_known known w ≡ false → ¬ Contains known w
+known_lacks known w h = λ i. let q : is_known known w ≡ true = contains_known known w i in cc
+
+-- texts with other bytes are others
+pub other_text : (v w : List ℕ) → bytes_eq v w ≡ false → ¬ (v ≡ w)
+other_text v w h = λ e. let q : bytes_eq v w ≡ true = (bytes_eq-Decides v w).1 e in cc
+
+pub other_bytes : (v w : List ℕ) → (¬ (v ≡ w)) → bytes_eq v w ≡ false
+other_bytes v w h = not_true (bytes_eq v w) (λ e. h ((bytes_eq-Decides v w).0 e))

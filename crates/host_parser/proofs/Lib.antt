@@ -1,3 +1,4 @@
+mod Cases
 pub mod Closes
 pub mod Complete
 pub mod Fine

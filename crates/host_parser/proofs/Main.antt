@@ -8,7 +8,7 @@ use Rattle.host_parser.specs.declared.reader.Phase.TheVariants as phases
 use Rattle.host_parser.specs.declared.reader.Reader.{Reader}
 use Rattle.host_parser.specs.Grammar.{Script, Sign, sign_of, IsScript}
 use Rattle.host_parser.specs.Machine.{State, items, let_begun, let_named, print_begun, argument, printed, want, have, step, run, start}
-use Rattle.host_parser.specs.Shows.{ScriptShows}
+use Rattle.host_parser.specs.Shows.{ScriptShows, IsTree}
 use Rattle.host_parser.specs.Reading.{Shows, Follows, PhaseShows, state_script}
 use Rattle.host_parser.proofs.Complete.{run_script}
 use Rattle.host_parser.proofs.Fine.{run_fine}
@@ -89,6 +89,9 @@ found ts r e (s, h, g) = on (items_shown s r g e)
   where
     on : (d : Script) × (s ≡ items d) × ScriptShows d r.nodes r.top → (d : Script) × IsScript ts d × ScriptShows d r.nodes r.top
     on (d, q, k) = (d, read_script ts d (h ∙ ap (λ x. Some x) q), k)
+
+pub tree : (ts : List Token) (r : Reader) → r.phase ≡ phases.Items → Leads ts r → IsTree r.nodes r.top
+tree ts r e h = let f : (d : Script) × IsScript ts d × ScriptShows d r.nodes r.top = found ts r e h in (f.0, f.1.fine, f.2)
 
 -- and each script of these tokens
 pub gives : (ts : List Token) (r : Reader) → Leads ts r → (d : Script) → IsScript ts d → ScriptShows d r.nodes r.top

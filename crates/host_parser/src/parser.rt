@@ -24,6 +24,15 @@ pub fn parse(alloc: Global, tokens: &[Token], len: u32) -> Result<Script, ParseE
 
     ensures len { IfOk result (λ s. s.len ≡ len) }
 {
+    read(alloc, tokens, len)
+}
+
+// The same of any tokens.
+fn read(alloc: Global, tokens: &[Token], len: u32) -> Result<Script, ParseError>
+    ensures found { IfOk result (λ s. (d : grammar.Script) × IsScript tokens.now d × ScriptShows d s.nodes s.top) }
+    ensures only { (d : grammar.Script) → IsScript tokens.now d → Gives result d }
+    ensures len { IfOk result (λ s. s.len ≡ len) }
+{
     let mut reader = Reader::new(alloc);
     for token in tokens {
         let went = reader.step(alloc, token)?;
@@ -39,3 +48,6 @@ pub fn parse(alloc: Global, tokens: &[Token], len: u32) -> Result<Script, ParseE
         _ => Err(ParseError::NotYet),
     }
 }
+
+#[cfg(test)]
+mod tests;

@@ -1,6 +1,7 @@
 use Rattle.std.proofs.Common.{arith}
-use Rattle.host_parser.proofs.Main.{one_more, refuses, all_read, found, gives, ends_none}
-use Rattle.host_parser.proofs.parser.parse.Goals as goal
+use Rattle.std.proofs.lemmas.Grind.{merely}
+use Rattle.host_parser.proofs.Main.{one_more, refuses, all_read, found, gives, tree, ends_none}
+use Rattle.host_parser.proofs.parser.read.Goals as goal
 
 pub loop-token-preserved : goal.loop-token-preserved
 loop-token-preserved c = one_more c.args.tokens.now c.loop-token.token-index c.token-item.result c.loop-token.reader c.step.new.self (omega arith) c.token-item.is
@@ -22,3 +23,6 @@ returns c = record {
   only = λ d is. absurd (ends_none c.args.tokens.now c.loop-token.reader c.in_default.not-Items (all_read c.args.tokens.now c.loop-token.token-index c.loop-token.reader (omega arith) c.loop-token.invariant) d is);
   len = tt;
 }
+
+pub invariant_of-result : goal.invariant_of-result
+invariant_of-result c = record { tree = merely (tree c.args.tokens.now c.loop-token.reader c.in-Items.is (all_read c.args.tokens.now c.loop-token.token-index c.loop-token.reader (omega arith) c.loop-token.invariant)) }
