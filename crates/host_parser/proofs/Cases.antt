@@ -1,13 +1,13 @@
 -- Worked cases: small lists of tokens that are scripts, by their derivation, and derivations with a fault.
-use Rattle.std.specs.Prelude.{◌≡◌, ℕ, zero, suc, ◌+◌, ◌≤◌, List, [], ◌∷◌, false, refl, codes}
+use Rattle.std.specs.Prelude.{ℕ, zero, suc, ◌+◌, ◌≤◌, List, [], ◌∷◌, false, refl, codes}
 use Rattle.std.proofs.Common.{arith}
 use Rattle.host_lexer.specs.declared.token.Word.TheVariants as words
 use Rattle.host_lexer.specs.declared.token.Mark.TheVariants as marks
 use Rattle.host_lexer.specs.declared.token.TokenKind.{TokenKind}
 use Rattle.host_lexer.specs.declared.token.TokenKind.TheVariants as kinds
 use Rattle.host_lexer.specs.declared.token.Token.{Token}
-use Rattle.host_parser.specs.Grammar.{plus, minus, Sum, product, added, Product, factor, times, number, text, name, parens, single, comma, none, listed, Script, nothing, declaration, printing, IsFine, IsScript, print_name, sum_depth, most_open}
-use Rattle.host_parser.proofs.Known.{known_contains, contains_known, known_lacks, other_text}
+use Rattle.host_parser.specs.Grammar.{plus, minus, Sum, product, added, factor, times, number, text, name, parens, single, comma, none, listed, Script, nothing, declaration, printing, IsFine, IsScript, print_name, sum_depth, most_open}
+use Rattle.host_parser.proofs.Known.{known_contains, known_lacks, other_text}
 
 abbrev token : TokenKind → ℕ → Token
 token k from = record { kind = k; from = from; to = from + 1; after_line = false }

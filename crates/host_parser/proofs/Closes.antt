@@ -1,19 +1,17 @@
 -- Closing a chain shows its derivation.
-use Rattle.std.specs.Prelude.{◌≡◌, ℕ, ◌+◌, ◌<◌, List, [], ◌∷◌, ◌++◌, Option, Some, None, slice_get, refl, length}
-use Rattle.std.proofs.Common.{sym, ◌∙◌, ap, subst, append_assoc, arith, length-append}
+use Rattle.std.specs.Prelude.{◌≡◌, ℕ, ◌<◌, List, [], ◌∷◌, ◌++◌, Some, None, slice_get, refl, length}
+use Rattle.std.proofs.Common.{sym, ◌∙◌, ap, append_assoc, arith, length-append}
 use Rattle.host_parser.specs.declared.script.NodeId.{NodeId}
-use Rattle.host_parser.specs.declared.script.Operator.{Operator}
 use Rattle.host_parser.specs.declared.script.Operator.TheVariants as operators
 use Rattle.host_parser.specs.declared.script.Operand.{Operand}
-use Rattle.host_parser.specs.declared.script.Form.{Form}
 use Rattle.host_parser.specs.declared.script.Form.TheVariants as forms
 use Rattle.host_parser.specs.declared.script.Node.{Node}
 use Rattle.host_parser.specs.declared.chain.Level as code
-use Rattle.host_parser.specs.Grammar.{Additive, Sum, product, added, Product, factor, times, Factor, Listed, single, comma}
+use Rattle.host_parser.specs.Grammar.{Additive, Sum, product, added, Product, factor, times, Factor}
 use Rattle.host_parser.specs.Machine.{BeforeSum, no_sum, sum_before, BeforeProduct, no_product, product_before, BeforeListed, no_listed, listed_before, Level, level, product_with, sum_with, listed_with, sum_of, at_times, at_added}
-use Rattle.host_parser.specs.Shows.{AtNode, IsChain, SumShows, SumLeft, ProductShows, ProductLeft, FactorShows, ListedShows, sum_place, product_place, operator_of}
+use Rattle.host_parser.specs.Shows.{IsChain, SumShows, SumLeft, ProductShows, ProductLeft, FactorShows, ListedShows, sum_place, product_place, operator_of}
 use Rattle.host_parser.specs.Chains.{BeforeSumShows, BeforeProductShows, BeforeListedShows, LevelShows, Grows}
-use Rattle.host_parser.proofs.Grow.{at_end, sum_left_on, product_left_on, factor_below, product_below, factor_kept, product_kept, before_sum_kept, before_product_kept}
+use Rattle.host_parser.proofs.Grow.{at_end, sum_left_on, product_left_on, factor_below, product_below, factor_kept, product_kept, before_sum_kept}
 
 pub grows_by : (old new : List Node) (x : Node) → new ≡ old ++ x ∷ [] → Grows old new
 grows_by old new x h = (x ∷ [], h)

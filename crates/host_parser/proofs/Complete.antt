@@ -1,14 +1,12 @@
 -- The machine reads what a derivation spells, where the derivation is fine.
-use Rattle.std.specs.Prelude.{◌≡◌, ℕ, ◌+◌, ◌<◌, ◌≤◌, List, [], ◌∷◌, Option, Some, None, Bool, true, false, nat_lt, Contains, refl}
-use Rattle.std.specs.Str.{bytes_eq}
-use Rattle.std.proofs.Common.{sym, ◌∙◌, ap, arith}
+use Rattle.std.specs.Prelude.{◌≡◌, ℕ, ◌+◌, ◌<◌, ◌≤◌, List, ◌∷◌, true, nat_lt, refl}
+use Rattle.std.proofs.Common.{◌∙◌, ap, arith}
 use Rattle.std.proofs.lemmas.Bool.Decides.{nat_tests}
 use Rattle.host_lexer.specs.declared.token.Word.TheVariants as words
 use Rattle.host_lexer.specs.declared.token.Mark.TheVariants as marks
-use Rattle.host_lexer.specs.declared.token.TokenKind.{TokenKind}
 use Rattle.host_lexer.specs.declared.token.TokenKind.TheVariants as kinds
-use Rattle.host_parser.specs.Grammar.{Additive, plus, minus, Sum, product, added, Product, factor, times, Factor, number, text, name, parens, Listed, single, comma, Arguments, none, listed, Script, nothing, declaration, printing, Sign, at, additive_mark, sum_then, product_then, factor_then, listed_then, arguments_then, script_then, print_name, declared_by, most_open, sum_depth, product_depth, factor_depth, listed_depth, arguments_depth, SumUses, ProductUses, FactorUses, ListedUses, ArgumentsUse, IsFine}
-use Rattle.host_parser.specs.Machine.{BeforeSum, no_sum, sum_before, BeforeProduct, no_product, product_before, BeforeListed, no_listed, listed_before, Level, level, fresh, Outer, in_let, in_print, in_parens, State, items, let_begun, let_named, print_begun, argument, printed, want, have, product_with, sum_with, listed_with, sum_of, script_of, open_in, is_known, named, opened, wanted, closed, parted, ended, marked, had, next_item, let_name, let_value, print_opened, argued, print_ended, step, run}
+use Rattle.host_parser.specs.Grammar.{plus, minus, Sum, product, added, Product, factor, times, Factor, number, text, name, parens, Listed, single, comma, Arguments, none, listed, Script, nothing, declaration, printing, Sign, at, sum_then, product_then, factor_then, listed_then, arguments_then, script_then, print_name, declared_by, most_open, sum_depth, product_depth, factor_depth, listed_depth, arguments_depth, SumUses, ProductUses, FactorUses, ListedUses, ArgumentsUse, IsFine}
+use Rattle.host_parser.specs.Machine.{BeforeSum, no_sum, sum_before, BeforeProduct, no_product, product_before, BeforeListed, no_listed, listed_before, Level, level, fresh, Outer, in_let, in_print, in_parens, State, items, argument, printed, want, have, product_with, sum_with, listed_with, script_of, open_in, run}
 use Rattle.host_parser.proofs.Known.{contains_known, lacks_known, other_bytes}
 
 -- the last operand of a chain, and what stands before it

@@ -1,14 +1,14 @@
 -- What the machine has read is fine.
 use Rattle.std.specs.Prelude.{◌≡◌, ℕ, ◌+◌, ◌<◌, ◌≤◌, List, [], ◌∷◌, Option, Some, None, Bool, true, false, cond, nat_lt, Contains, refl}
 use Rattle.std.specs.Str.{bytes_eq}
-use Rattle.std.proofs.Common.{sym, ◌∙◌, ap, arith, subst}
+use Rattle.std.proofs.Common.{arith, subst}
 use Rattle.std.proofs.lemmas.Bool.Decides.{nat_tests}
 use Rattle.host_lexer.specs.declared.token.Word.TheVariants as words
 use Rattle.host_lexer.specs.declared.token.Mark.{Mark}
 use Rattle.host_lexer.specs.declared.token.Mark.TheVariants as marks
 use Rattle.host_lexer.specs.declared.token.TokenKind.{TokenKind}
 use Rattle.host_lexer.specs.declared.token.TokenKind.TheVariants as kinds
-use Rattle.host_parser.specs.Grammar.{Additive, plus, minus, Sum, product, added, Product, factor, times, Factor, number, text, name, parens, Listed, single, comma, Arguments, none, listed, Script, nothing, declaration, printing, Sign, print_name, declared_by, most_open, sum_depth, product_depth, factor_depth, listed_depth, arguments_depth, SumUses, ProductUses, FactorUses, ListedUses, ArgumentsUse, IsFine}
+use Rattle.host_parser.specs.Grammar.{Sum, Product, Factor, name, Listed, Arguments, Script, Sign, print_name, declared_by, most_open, sum_depth, product_depth, factor_depth, listed_depth, arguments_depth, SumUses, ProductUses, FactorUses, ListedUses, ArgumentsUse, IsFine}
 use Rattle.host_parser.specs.Machine.{BeforeSum, no_sum, sum_before, BeforeProduct, no_product, product_before, BeforeListed, no_listed, listed_before, Level, level, fresh, Outer, in_let, in_print, in_parens, State, items, let_begun, let_named, print_begun, argument, printed, want, have, product_with, sum_with, listed_with, sum_of, script_of, open_in, is_known, named, opened, wanted, closed, parted, ended, marked, had, next_item, let_name, let_value, print_opened, argued, print_ended, step, run}
 use Rattle.host_parser.proofs.Known.{known_contains, known_lacks, other_text}
 

@@ -1,6 +1,6 @@
 -- What a table shows, a longer one shows.
-use Rattle.std.specs.Prelude.{◌≡◌, ℕ, zero, ◌+◌, ◌<◌, ◌≤◌, List, [], ◌∷◌, ◌++◌, Option, Some, None, IsSomeAnd, slice_get, refl, length}
-use Rattle.std.proofs.Common.{suc, sym, ◌∙◌, ap, subst, arith, length-append}
+use Rattle.std.specs.Prelude.{◌≡◌, ℕ, zero, ◌<◌, ◌≤◌, List, [], ◌∷◌, ◌++◌, length}
+use Rattle.std.proofs.Common.{suc, sym, subst, arith, length-append}
 use Rattle.host_parser.specs.declared.script.NodeId.{NodeId}
 use Rattle.host_parser.specs.declared.script.Operand.{Operand}
 use Rattle.host_parser.specs.declared.script.Form.{Form}
@@ -11,7 +11,7 @@ use Rattle.host_parser.specs.declared.reader.Statement.{Statement}
 use Rattle.host_parser.specs.declared.reader.Statement.TheVariants as statements
 use Rattle.host_parser.specs.Grammar.{Additive, Sum, product, added, Product, factor, times, Factor, number, text, name, parens, Listed, single, comma, Arguments, none, listed, Script, nothing, declaration, printing}
 use Rattle.host_parser.specs.Machine.{BeforeSum, no_sum, sum_before, BeforeProduct, no_product, product_before, BeforeListed, no_listed, listed_before, Level, level, Outer, in_let, in_print, in_parens}
-use Rattle.host_parser.specs.Shows.{AtNode, IsChain, IsLet, IsPrint, EndsIn, SumShows, SumLeft, ProductShows, ProductLeft, FactorShows, ListedShows, ArgumentsShow, ScriptShows}
+use Rattle.host_parser.specs.Shows.{AtNode, IsChain, IsLet, IsPrint, SumShows, SumLeft, ProductShows, ProductLeft, FactorShows, ListedShows, ArgumentsShow, ScriptShows}
 use Rattle.host_parser.specs.Chains.{BeforeSumShows, BeforeProductShows, BeforeListedShows, LevelShows, Grows}
 use Rattle.host_parser.specs.Reading.{OuterShows}
 

@@ -1,13 +1,13 @@
 -- What the machine has read is a script exactly where it wants a statement.
-use Rattle.std.specs.Prelude.{◌≡◌, ℕ, ◌+◌, ◌<◌, ◌≤◌, List, [], ◌∷◌, ◌++◌, map, take, length, Bool, true, false, Option, Some, None, refl, reverse}
-use Rattle.std.proofs.Common.{sym, ◌∙◌, ap, subst, append_assoc, append-nil, arith, get_or, drop, take_all}
+use Rattle.std.specs.Prelude.{◌≡◌, ℕ, ◌+◌, ◌<◌, ◌≤◌, List, [], ◌∷◌, ◌++◌, map, take, length, true, false, Option, Some, None, refl, reverse}
+use Rattle.std.proofs.Common.{sym, ◌∙◌, ap, subst, append_assoc, append-nil, get_or, drop, take_all}
 use Rattle.std.proofs.lemmas.List.{take_more, take-append-drop}
 use Rattle.host_lexer.specs.declared.token.Token.{Token}
 use Rattle.host_parser.specs.declared.reader.Phase.{Phase}
 use Rattle.host_parser.specs.declared.reader.Phase.TheVariants as phases
 use Rattle.host_parser.specs.declared.reader.Reader.{Reader}
 use Rattle.host_parser.specs.Grammar.{Script, Sign, sign_of, IsScript}
-use Rattle.host_parser.specs.Machine.{State, items, let_begun, let_named, print_begun, argument, printed, want, have, step, run, start}
+use Rattle.host_parser.specs.Machine.{State, items, step, run, start}
 use Rattle.host_parser.specs.Shows.{ScriptShows, IsTree}
 use Rattle.host_parser.specs.Reading.{Shows, Follows, PhaseShows, state_script}
 use Rattle.host_parser.proofs.Complete.{run_script}
@@ -69,7 +69,7 @@ pub refuses : (ts : List Token) (i : ℕ) (t : Token) (old new : Reader) → i <
 refuses ts i t old new lt same f (s, h, g) d is =
     let whole : take i ts ++ (t ∷ drop (i + 1) ts) ≡ ts = sym (append_assoc (take i ts) (t ∷ []) (drop (i + 1) ts)) ∙ ap (λ x. x ++ drop (i + 1) ts) (ap (λ x. take i ts ++ x ∷ []) same ∙ sym (take_more ts i t lt)) ∙ take-append-drop (i + 1) ts in
     let stopped : run start (map sign_of (take i ts ++ (t ∷ drop (i + 1) ts))) ≡ None = ap (run start) (signs_on (take i ts) (t ∷ drop (i + 1) ts)) ∙ run_on (map sign_of (take i ts)) (sign_of t ∷ map sign_of (drop (i + 1) ts)) start
-        ∙ (rw (h, run, follow_false (step s (sign_of t)) new (f s g)) refl) in
+    ∙ (rw (h, run, follow_false (step s (sign_of t)) new (f s g)) refl) in
     let q : Some (items d) ≡ None = sym (script_read ts d is) ∙ ap (λ z. run start (map sign_of z)) (sym whole) ∙ stopped in
     cc
 

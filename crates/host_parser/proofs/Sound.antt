@@ -8,8 +8,8 @@ use Rattle.host_lexer.specs.declared.token.Mark.{Mark}
 use Rattle.host_lexer.specs.declared.token.Mark.TheVariants as marks
 use Rattle.host_lexer.specs.declared.token.TokenKind.{TokenKind}
 use Rattle.host_lexer.specs.declared.token.TokenKind.TheVariants as kinds
-use Rattle.host_parser.specs.Grammar.{plus, minus, Sum, Product, Factor, Script, Arguments, Sign, at, name, factor_then, sum_then, product_then, listed_then, script_then, declared_by, most_open, print_name}
-use Rattle.host_parser.specs.Machine.{BeforeSum, no_sum, sum_before, BeforeProduct, no_product, product_before, BeforeListed, no_listed, listed_before, Level, level, fresh, Outer, in_let, in_print, in_parens, State, items, let_begun, let_named, print_begun, argument, printed, want, have, product_with, sum_with, listed_with, sum_of, script_of, open_in, is_known, named, opened, wanted, closed, parted, ended, marked, had, next_item, let_name, let_value, print_opened, argued, print_ended, step, run, before_sum_then, before_product_then, before_listed_then, level_then, outer_then, state_then}
+use Rattle.host_parser.specs.Grammar.{Sum, Product, Factor, Script, Arguments, Sign, at, name, factor_then, sum_then, product_then, listed_then, script_then, declared_by, most_open, print_name}
+use Rattle.host_parser.specs.Machine.{BeforeSum, no_sum, sum_before, BeforeProduct, no_product, product_before, BeforeListed, no_listed, listed_before, Level, level, fresh, Outer, in_let, in_print, in_parens, State, items, let_begun, let_named, print_begun, argument, printed, want, have, product_with, sum_with, listed_with, sum_of, script_of, open_in, is_known, named, opened, wanted, closed, parted, ended, marked, had, next_item, let_name, let_value, print_opened, argued, print_ended, step, run, before_sum_then, before_product_then, before_listed_then, level_then, state_then}
 
 product_with_then : (m : BeforeProduct) (f : Factor) (y : List Sign) → product_then (product_with m f) y ≡ before_product_then m (factor_then f y)
 product_with_then no_product f y = refl

@@ -1,17 +1,13 @@
 -- What a step of the reader shows.
-use Rattle.std.specs.Prelude.{◌≡◌, ℕ, ◌+◌, ◌<◌, ◌≤◌, nat_lt, List, [], ◌∷◌, ◌++◌, Option, Some, None, reverse, Bool, true, false, refl, length, cond, Result, Ok, Err, IfOk}
+use Rattle.std.specs.Prelude.{◌≡◌, ℕ, ◌+◌, nat_lt, List, [], ◌∷◌, ◌++◌, Option, Some, reverse, true, refl, length, cond, Result, Ok, Err, IfOk}
 use Rattle.std.specs.List.{list_any}
 use Rattle.std.specs.Str.{bytes_eq}
-use Rattle.std.proofs.Common.{sym, ◌∙◌, ap, subst, append_assoc, arith, length-append, Global}
+use Rattle.std.proofs.Common.{sym, ◌∙◌, ap, subst, arith, Global}
 use Rattle.std.proofs.lemmas.Bool.Decides.{nat_tests}
 use Rattle.std.proofs.lemmas.List.{reverse-append, length-reverse}
 use denote.Ref.{Bor}
 use Rattle.std.specs.declared.vec.Vec.{Vec}
-use Rattle.host_lexer.specs.declared.token.Mark.TheVariants as marks
-use Rattle.host_lexer.specs.declared.token.TokenKind.{TokenKind}
-use Rattle.host_lexer.specs.declared.token.TokenKind.TheVariants as kinds
 use Rattle.host_parser.specs.declared.script.NodeId.{NodeId}
-use Rattle.host_parser.specs.declared.script.Operand.{Operand}
 use Rattle.host_parser.specs.declared.script.Form.{Form}
 use Rattle.host_parser.specs.declared.script.Form.TheVariants as forms
 use Rattle.host_parser.specs.declared.script.Node.{Node}
@@ -20,10 +16,10 @@ use Rattle.host_parser.specs.declared.reader.Statement.{Statement}
 use Rattle.host_parser.specs.declared.reader.Statement.TheVariants as statements
 use Rattle.host_parser.specs.declared.reader.Phase.TheVariants as phases
 use Rattle.host_parser.specs.declared.reader.Reader.{Reader}
-use Rattle.host_parser.specs.Grammar.{Sum, Factor, number, text, name, Listed, Arguments, none, listed, Script, nothing, declaration, printing, declared_by, most_open}
-use Rattle.host_parser.specs.Machine.{BeforeListed, no_listed, listed_before, Level, level, Outer, in_let, in_print, in_parens, State, items, have, want, printed, script_of, open_in, is_known, listed_with, sum_of, fresh, closed, parted, ended}
-use Rattle.host_parser.specs.Shows.{AtNode, IsNumber, IsText, IsName, IsLet, IsPrint, SumShows, FactorShows, ListedShows, ArgumentsShow, ScriptShows}
-use Rattle.host_parser.specs.Chains.{BeforeListedShows, LevelShows, Grows}
+use Rattle.host_parser.specs.Grammar.{Sum, Factor, number, text, name, Arguments, Script, declaration, printing, most_open}
+use Rattle.host_parser.specs.Machine.{no_listed, listed_before, Level, Outer, in_let, in_print, in_parens, State, items, have, script_of, open_in, listed_with, sum_of, fresh, closed, parted, ended}
+use Rattle.host_parser.specs.Shows.{IsNumber, IsText, IsName, IsLet, IsPrint, SumShows, FactorShows, ArgumentsShow, ScriptShows}
+use Rattle.host_parser.specs.Chains.{LevelShows, Grows}
 use Rattle.host_parser.specs.Reading.{OuterShows, Knows, Held, Shows, Follows}
 use Rattle.host_parser.proofs.Grow.{at_end, sum_kept, before_listed_kept, arguments_kept, script_kept, level_kept, outer_kept}
 use Rattle.host_parser.proofs.Closes.{listed_pushed}
@@ -107,9 +103,17 @@ parts outer f l k r nodes v place ids longer x g e1 e2 hl alone h ho = on outer 
     on : (outer : Outer) → Held (script_of outer) r → OuterShows outer r.nodes [] (statements.Print place ids)
         → Follows (parted f l outer k) true (record r { nodes = nodes; statement = statements.Print place longer; level = v; phase = phases.Want })
     on (in_let s t w n q) h ho = absurd ho
-    on (in_print s p o a) h ho = (refl, ((script_kept r.nodes nodes s r.top g h.0, h.1), (hl,
-        subst (λ z. OuterShows (in_print s p o (listed_before (listed_with a (sum_of l f)) k)) nodes z (statements.Print place longer)) (sym alone)
-        (ho.0, listed_pushed a (sum_of l f) nodes ids longer x e2 (before_listed_kept r.nodes nodes a ids g ho.1) e1))))
+    on (in_print s p o a) h ho = (
+      refl,
+      (
+        (script_kept r.nodes nodes s r.top g h.0, h.1),
+        (
+          hl,
+          subst (λ z. OuterShows (in_print s p o (listed_before (listed_with a (sum_of l f)) k)) nodes z (statements.Print place longer)) (sym alone)
+              (ho.0, listed_pushed a (sum_of l f) nodes ids longer x e2 (before_listed_kept r.nodes nodes a ids g ho.1) e1),
+        ),
+      ),
+    )
     on (in_parens o m outer) h ho = absurd ho
 
 pub no_parens : (vs : List code.Level) → length vs ≡ 0 → reverse vs ≡ []
@@ -122,9 +126,15 @@ pub declares : (s : Script) (l : ℕ) (w : List ℕ) (n q : ℕ) (e : Sum) (c : 
     → ScriptShows s old ids → ScriptShows (declaration s l w n q e c) new longer
 declares s l w n q e c old mid new ids longer value x g shown e1 e2 e3 h =
     let node : Node = record { form = forms.Let w value; place = l } in
-    let grown : Grows mid (mid ++ node ∷ []) = (node ∷ [], refl) in
-    (ids, x, e3, (script_kept mid new s ids (node ∷ [], e2) (script_kept old mid s ids g h),
-    rw (e1, e2) (at_end mid (forms.Let w value) l l (IsLet w (λ v. SumShows e (mid ++ node ∷ []) v)) refl (refl, sum_kept mid (mid ++ node ∷ []) e value.0 grown shown))))
+    let grown : Grows mid (mid ++ node ∷ []) = (node ∷ [], refl) in (
+      ids,
+      x,
+      e3,
+      (
+        script_kept mid new s ids (node ∷ [], e2) (script_kept old mid s ids g h),
+        rw (e1, e2) (at_end mid (forms.Let w value) l l (IsLet w (λ v. SumShows e (mid ++ node ∷ []) v)) refl (refl, sum_kept mid (mid ++ node ∷ []) e value.0 grown shown)),
+      ),
+    )
 
 -- a name was added
 pub knows_more : (known : List (List ℕ)) (keys more : List (Bor (List ℕ))) (w : Bor (List ℕ))
@@ -137,9 +147,15 @@ pub prints : (s : Script) (p o : ℕ) (a : Arguments) (c e : ℕ) (old new : Lis
     → ScriptShows s old ids → ScriptShows (printing s p o a c e) new longer
 prints s p o a c e old new ids longer arguments x shown e1 e2 e3 h =
     let node : Node = record { form = forms.Print arguments; place = p } in
-    let grown : Grows old (old ++ node ∷ []) = (node ∷ [], refl) in
-    (ids, x, e3, (script_kept old new s ids (node ∷ [], e2) h,
-    rw (e1, e2) (at_end old (forms.Print arguments) p p (IsPrint (λ xs. ArgumentsShow a (old ++ node ∷ []) xs)) refl (arguments_kept old (old ++ node ∷ []) a arguments grown shown))))
+    let grown : Grows old (old ++ node ∷ []) = (node ∷ [], refl) in (
+      ids,
+      x,
+      e3,
+      (
+        script_kept old new s ids (node ∷ [], e2) h,
+        rw (e1, e2) (at_end old (forms.Print arguments) p p (IsPrint (λ xs. ArgumentsShow a (old ++ node ∷ []) xs)) refl (arguments_kept old (old ++ node ∷ []) a arguments grown shown)),
+      ),
+    )
 
 pub if_ok : {A E : Type 0} (r : Result A E) (P Q : A → Type 0) → IfOk r P → ((x : A) → P x → Q x) → IfOk r Q
 if_ok (Ok x) P Q h g = g x h

@@ -1,10 +1,8 @@
 -- What the reader shows of the machine that it follows.
-use Rattle.std.specs.Prelude.{◌≡◌, ℕ, List, [], ◌∷◌, ◌++◌, length, reverse, Option, Some, None, Bool, true, false}
+use Rattle.std.specs.Prelude.{◌≡◌, ℕ, List, [], ◌∷◌, reverse, Option, Some, None, Bool, true, false}
 use Rattle.std.specs.List.{list_any}
 use Rattle.std.specs.Str.{bytes_eq}
 use denote.Ref.{Bor}
-use Rattle.host_parser.specs.declared.script.NodeId.{NodeId}
-use Rattle.host_parser.specs.declared.script.Operand.{Operand}
 use Rattle.host_parser.specs.declared.script.Node.{Node}
 use Rattle.host_parser.specs.declared.chain.Level as code
 use Rattle.host_parser.specs.declared.reader.Statement.{Statement}
@@ -14,7 +12,7 @@ use Rattle.host_parser.specs.declared.reader.Phase.TheVariants as phases
 use Rattle.host_parser.specs.declared.reader.Reader.{Reader}
 use Rattle.host_parser.specs.Grammar.{Script, declared_by}
 use Rattle.host_parser.specs.Shows.{FactorShows, ArgumentsShow, ScriptShows}
-use Rattle.host_parser.specs.Machine.{Outer, in_let, in_print, in_parens, Level, State, items, let_begun, let_named, print_begun, argument, printed, want, have, script_of, is_known}
+use Rattle.host_parser.specs.Machine.{Outer, in_let, in_print, in_parens, State, items, let_begun, let_named, print_begun, argument, printed, want, have, script_of, is_known}
 use Rattle.host_parser.specs.Chains.{LevelShows, BeforeListedShows}
 
 -- the parentheses that are open, the innermost one first, and the statement around them

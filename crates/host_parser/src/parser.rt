@@ -41,7 +41,10 @@ fn read(alloc: Global, tokens: &[Token], len: u32) -> Result<Script, ParseError>
         }
     }
     let Reader {
-        nodes, top, phase, ..
+        nodes,
+        top,
+        phase,
+        ..
     } = reader;
     match phase {
         Phase::Items => Ok(Script { top, nodes, len }),

@@ -6,7 +6,7 @@ ghost use Rattle.host_parser.specs.Shows.{FactorShows, ArgumentsShow, operator_o
 ghost use Rattle.host_parser.specs.Chains.{LevelShows};
 ghost use Rattle.host_parser.specs.Reading.{OuterShows, Held, Shows, Follows};
 
-use crate::chain::{add, close_level, close_product, Level};
+use crate::chain::{Level, add, close_level, close_product};
 use crate::script::{Form, Node, NodeId, Operand, Operator};
 use embed_base::{PlainList, PlainString};
 use host_lexer::{Mark, Token, TokenKind, Word};
@@ -149,7 +149,13 @@ impl<'a> Reader<'a> {
     }
 
     // Reads a `+` or `-` after an operand.
-    fn added(&mut self, alloc: Global, operand: NodeId, operator: Operator, place: u32) -> Result<bool, AllocError>
+    fn added(
+        &mut self,
+        alloc: Global,
+        operand: NodeId,
+        operator: Operator,
+        place: u32,
+    ) -> Result<bool, AllocError>
         ensures { IfOk result (λ went. (f : grammar.Factor) (l : machine.Level) (outer : machine.Outer) (o : grammar.Additive) → operator ≡ operator_of o → Held (machine.script_of outer) self.old → FactorShows f self.old.nodes operand.0 → LevelShows l self.old.nodes self.old.level → OuterShows outer self.old.nodes (reverse self.old.outer.items) self.old.statement → Follows (Some (machine.want (machine.at_added l f o place) outer)) went self.new) }
     {
         let product = mem::replace(&mut self.level.product, PlainList::new(alloc));
@@ -213,7 +219,13 @@ impl<'a> Reader<'a> {
     }
 
     // Ends a `let` at an operand.
-    fn declare(&mut self, alloc: Global, place: u32, name: &'a str, operand: NodeId) -> Result<bool, AllocError>
+    fn declare(
+        &mut self,
+        alloc: Global,
+        place: u32,
+        name: &'a str,
+        operand: NodeId,
+    ) -> Result<bool, AllocError>
         ensures { IfOk result (λ went. (f : grammar.Factor) (l : machine.Level) (s : grammar.Script) (n q k : ℕ) → Held s self.old → FactorShows f self.old.nodes operand.0 → LevelShows l self.old.nodes self.old.level → reverse self.old.outer.items ≡ [] → Follows (Some (machine.items (grammar.declaration s place name.now n q (machine.sum_of l f) k))) went self.new) }
     {
         let level = mem::replace(&mut self.level, Level::new(alloc));
@@ -244,7 +256,13 @@ impl<'a> Reader<'a> {
     }
 
     // Reads a punctuator after an operand.
-    fn marked(&mut self, alloc: Global, operand: NodeId, mark: Mark, place: u32) -> Result<bool, AllocError>
+    fn marked(
+        &mut self,
+        alloc: Global,
+        operand: NodeId,
+        mark: Mark,
+        place: u32,
+    ) -> Result<bool, AllocError>
         ensures { IfOk result (λ went. (f : grammar.Factor) (l : machine.Level) (outer : machine.Outer) → Held (machine.script_of outer) self.old → FactorShows f self.old.nodes operand.0 → LevelShows l self.old.nodes self.old.level → OuterShows outer self.old.nodes (reverse self.old.outer.items) self.old.statement → Follows (machine.marked f l outer place mark) went self.new) }
     {
         match mark {
@@ -308,7 +326,13 @@ impl<'a> Reader<'a> {
     }
 
     // Reads the `=` of a `let`.
-    fn let_value(&mut self, alloc: Global, place: u32, name: &'a str, token: &Token) -> Result<bool, AllocError>
+    fn let_value(
+        &mut self,
+        alloc: Global,
+        place: u32,
+        name: &'a str,
+        token: &Token,
+    ) -> Result<bool, AllocError>
         ensures { IfOk result (λ went. (s : grammar.Script) (n : ℕ) → Held s self.old → reverse self.old.outer.items ≡ [] → Follows (machine.let_value s place name.now n token.now.from token.now.kind) went self.new) }
     {
         match &token.kind {
@@ -353,7 +377,12 @@ impl<'a> Reader<'a> {
     }
 
     // Reads the `;` of a `print`.
-    fn end_print(&mut self, place: u32, arguments: PlainList<NodeId>, token: &Token) -> Result<bool, AllocError>
+    fn end_print(
+        &mut self,
+        place: u32,
+        arguments: PlainList<NodeId>,
+        token: &Token,
+    ) -> Result<bool, AllocError>
         ensures { IfOk result (λ went. (s : grammar.Script) (o : ℕ) (a : grammar.Arguments) (k : ℕ) → Held s self.old → ArgumentsShow a self.old.nodes arguments → reverse self.old.outer.items ≡ [] → Follows (machine.print_ended s place o a k token.now.from token.now.kind) went self.new) }
     {
         match &token.kind {

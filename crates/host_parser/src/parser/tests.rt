@@ -71,7 +71,10 @@ fn write_node(alloc: Global, out: &mut String, node: &Node) -> Result<(), AllocE
         Form::Chain(left, NodeId(last)) => {
             for operand in left.as_slice() {
                 let sign = sign_of(operand.operator);
-                out.push_str(format!(in alloc; "#{}{sign}{} ", operand.node.0, operand.place)?.as_str())?;
+                out.push_str(format!(in alloc;
+                    "#{}{sign}{} ",
+                    operand.node.0, operand.place
+                )?.as_str())?;
             }
             out.push_str(format!(in alloc; "#{last}")?.as_str())?;
         }
@@ -174,7 +177,10 @@ fn other_tokens_are_refused(rt: HostRuntime) -> Result<(), Fail> {
         "a ( 1 ) ;",
     ];
     for text in cases {
-        assert!(rt; matches!(tree_of(alloc, text), Err(ParseError::NotYet)), "{text}");
+        assert!(rt;
+            matches!(tree_of(alloc, text), Err(ParseError::NotYet)),
+            "{text}"
+        );
     }
     Ok(())
 }

@@ -1,4 +1,3 @@
-use Rattle.std.proofs.Common.{◌≡◌, ◌∙◌, sym, ap, refl}
 use Rattle.host_parser.proofs.Steps.{popped, closes_parens}
 use Rattle.host_parser.proofs.reader.Reader.close.Goals as goal
 

@@ -1,4 +1,3 @@
-use Rattle.std.proofs.Common.{◌≡◌, ◌∙◌, sym, ap, refl}
 use Rattle.host_parser.proofs.Steps.{closes_print}
 use Rattle.host_parser.proofs.reader.Reader.close_print.Goals as goal
 

@@ -1,4 +1,4 @@
-use Rattle.std.proofs.Common.{◌≡◌, ◌∙◌, sym, ap, refl, arith}
+use Rattle.std.proofs.Common.{arith}
 use Rattle.std.proofs.lemmas.Grind.{common_steps}
 use Rattle.host_parser.proofs.Steps.{parts, no_parens}
 use Rattle.host_parser.proofs.reader.Reader.part.Goals as goal
