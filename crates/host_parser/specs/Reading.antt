@@ -4,15 +4,16 @@ use Rattle.std.specs.List.{list_any}
 use Rattle.std.specs.Str.{bytes_eq}
 use denote.Ref.{Bor}
 use Rattle.host_parser.specs.declared.script.Node.{Node}
+use Rattle.host_parser.specs.declared.script.NodeId.{NodeId}
 use Rattle.host_parser.specs.declared.chain.Level as code
 use Rattle.host_parser.specs.declared.reader.Statement.{Statement}
 use Rattle.host_parser.specs.declared.reader.Statement.TheVariants as statements
 use Rattle.host_parser.specs.declared.reader.Phase.{Phase}
 use Rattle.host_parser.specs.declared.reader.Phase.TheVariants as phases
 use Rattle.host_parser.specs.declared.reader.Reader.{Reader}
-use Rattle.host_parser.specs.Grammar.{Script, declared_by}
+use Rattle.host_parser.specs.Grammar.{Factor, Script, declared_by}
 use Rattle.host_parser.specs.Shows.{FactorShows, ArgumentsShow, ScriptShows}
-use Rattle.host_parser.specs.Machine.{Outer, in_let, in_print, in_parens, State, items, let_begun, let_named, print_begun, argument, printed, want, have, script_of, is_known}
+use Rattle.host_parser.specs.Machine.{Level, Outer, in_let, in_print, in_parens, State, items, let_begun, let_named, print_begun, argument, printed, want, have, script_of, is_known}
 use Rattle.host_parser.specs.Chains.{LevelShows, BeforeListedShows}
 
 -- the parentheses that are open, the innermost one first, and the statement around them
@@ -59,3 +60,15 @@ Shows s r = Held (state_script s) r × PhaseShows s r.phase r.nodes r.level (rev
 abbrev pub Follows : Option State → Bool → Reader → Type 0
 Follows None went r = went ≡ false
 Follows (Some s) went r = (went ≡ true) × Shows s r
+
+-- what a step leaves where an operand is wanted, by what the machine does there
+abbrev pub FromWant : (Level → Outer → Option State) → Reader → Bool → Reader → Type 0
+FromWant next old went new = (l : Level) (outer : Outer) → Held (script_of outer) old → LevelShows l old.nodes old.level → OuterShows outer old.nodes (reverse old.outer.items) old.statement → Follows (next l outer) went new
+
+-- after an operand
+abbrev pub FromHave : (Factor → Level → Outer → Option State) → NodeId → Reader → Bool → Reader → Type 0
+FromHave next operand old went new = (f : Factor) (l : Level) (outer : Outer) → Held (script_of outer) old → FactorShows f old.nodes operand.0 → LevelShows l old.nodes old.level → OuterShows outer old.nodes (reverse old.outer.items) old.statement → Follows (next f l outer) went new
+
+-- outside of an expression
+abbrev pub FromScript : (Script → Option State) → Reader → Bool → Reader → Type 0
+FromScript next old went new = (s : Script) → Held s old → reverse old.outer.items ≡ [] → Follows (next s) went new

@@ -4,7 +4,7 @@ ghost use Rattle.host_parser.specs.Grammar as grammar;
 ghost use Rattle.host_parser.specs.Machine as machine;
 ghost use Rattle.host_parser.specs.Shows.{FactorShows, ArgumentsShow, operator_of};
 ghost use Rattle.host_parser.specs.Chains.{LevelShows};
-ghost use Rattle.host_parser.specs.Reading.{OuterShows, Held, Shows, Follows};
+ghost use Rattle.host_parser.specs.Reading.{OuterShows, Held, Shows, Follows, FromWant, FromHave, FromScript};
 
 use crate::chain::{Level, add, close_level, close_product};
 use crate::script::{Form, Node, NodeId, Operand, Operator};
@@ -89,7 +89,7 @@ impl<'a> Reader<'a> {
 
     // Reads a `(` where an operand is wanted.
     fn open(&mut self, alloc: Global) -> Result<bool, AllocError>
-        ensures { IfOk result (λ went. (l : machine.Level) (outer : machine.Outer) (k : ℕ) → Held (machine.script_of outer) self.old → LevelShows l self.old.nodes self.old.level → OuterShows outer self.old.nodes (reverse self.old.outer.items) self.old.statement → Follows (machine.opened l outer k) went self.new) }
+        ensures { IfOk result (λ went. (k : ℕ) → FromWant (λ l outer. machine.opened l outer k) self.old went self.new) }
     {
         if !self.has_room() {
             return Ok(false);
@@ -102,7 +102,7 @@ impl<'a> Reader<'a> {
 
     // Reads a name where an operand is wanted.
     fn name(&mut self, alloc: Global, name: &str, place: u32) -> Result<bool, AllocError>
-        ensures { IfOk result (λ went. (l : machine.Level) (outer : machine.Outer) → Held (machine.script_of outer) self.old → LevelShows l self.old.nodes self.old.level → OuterShows outer self.old.nodes (reverse self.old.outer.items) self.old.statement → Follows (machine.named l outer place name.now) went self.new) }
+        ensures { IfOk result (λ went. FromWant (λ l outer. machine.named l outer place name.now) self.old went self.new) }
     {
         if !self.names.contains(name) {
             return Ok(false);
@@ -115,7 +115,7 @@ impl<'a> Reader<'a> {
 
     // Reads a token where an operand is wanted.
     fn wanted(&mut self, alloc: Global, token: &Token) -> Result<bool, AllocError>
-        ensures { IfOk result (λ went. (l : machine.Level) (outer : machine.Outer) → Held (machine.script_of outer) self.old → LevelShows l self.old.nodes self.old.level → OuterShows outer self.old.nodes (reverse self.old.outer.items) self.old.statement → Follows (machine.wanted l outer token.now.from token.now.kind) went self.new) }
+        ensures { IfOk result (λ went. FromWant (λ l outer. machine.wanted l outer token.now.from token.now.kind) self.old went self.new) }
     {
         match &token.kind {
             TokenKind::Number(value) => {
@@ -137,7 +137,7 @@ impl<'a> Reader<'a> {
 
     // Reads a `*` after an operand.
     fn times(&mut self, operand: NodeId, place: u32) -> Result<bool, AllocError>
-        ensures { IfOk result (λ went. (f : grammar.Factor) (l : machine.Level) (outer : machine.Outer) → Held (machine.script_of outer) self.old → FactorShows f self.old.nodes operand.0 → LevelShows l self.old.nodes self.old.level → OuterShows outer self.old.nodes (reverse self.old.outer.items) self.old.statement → Follows (Some (machine.want (machine.at_times l f place) outer)) went self.new) }
+        ensures { IfOk result (λ went. FromHave (λ f l outer. Some (machine.want (machine.at_times l f place) outer)) operand self.old went self.new) }
     {
         self.level.product.push(Operand {
             node: operand,
@@ -156,7 +156,7 @@ impl<'a> Reader<'a> {
         operator: Operator,
         place: u32,
     ) -> Result<bool, AllocError>
-        ensures { IfOk result (λ went. (f : grammar.Factor) (l : machine.Level) (outer : machine.Outer) (o : grammar.Additive) → operator ≡ operator_of o → Held (machine.script_of outer) self.old → FactorShows f self.old.nodes operand.0 → LevelShows l self.old.nodes self.old.level → OuterShows outer self.old.nodes (reverse self.old.outer.items) self.old.statement → Follows (Some (machine.want (machine.at_added l f o place) outer)) went self.new) }
+        ensures { IfOk result (λ went. (o : grammar.Additive) → operator ≡ operator_of o → FromHave (λ f l outer. Some (machine.want (machine.at_added l f o place) outer)) operand self.old went self.new) }
     {
         let product = mem::replace(&mut self.level.product, PlainList::new(alloc));
         let node = close_product(&mut self.nodes, product, operand)?;
@@ -171,7 +171,7 @@ impl<'a> Reader<'a> {
 
     // Reads a `)` after an operand.
     fn close(&mut self, alloc: Global, operand: NodeId) -> Result<bool, AllocError>
-        ensures { IfOk result (λ went. (f : grammar.Factor) (l : machine.Level) (outer : machine.Outer) (k : ℕ) → Held (machine.script_of outer) self.old → FactorShows f self.old.nodes operand.0 → LevelShows l self.old.nodes self.old.level → OuterShows outer self.old.nodes (reverse self.old.outer.items) self.old.statement → Follows (machine.closed f l outer k) went self.new) }
+        ensures { IfOk result (λ went. (k : ℕ) → FromHave (λ f l outer. machine.closed f l outer k) operand self.old went self.new) }
     {
         let Some(outside) = self.outer.pop() else {
             return self.close_print(alloc, operand);
@@ -200,7 +200,7 @@ impl<'a> Reader<'a> {
 
     // Reads a `,` after an operand.
     fn part(&mut self, alloc: Global, operand: NodeId) -> Result<bool, AllocError>
-        ensures { IfOk result (λ went. (f : grammar.Factor) (l : machine.Level) (outer : machine.Outer) (k : ℕ) → Held (machine.script_of outer) self.old → FactorShows f self.old.nodes operand.0 → LevelShows l self.old.nodes self.old.level → OuterShows outer self.old.nodes (reverse self.old.outer.items) self.old.statement → Follows (machine.parted f l outer k) went self.new) }
+        ensures { IfOk result (λ went. (k : ℕ) → FromHave (λ f l outer. machine.parted f l outer k) operand self.old went self.new) }
     {
         if !self.outer.is_empty() {
             return Ok(false);
@@ -226,7 +226,7 @@ impl<'a> Reader<'a> {
         name: &'a str,
         operand: NodeId,
     ) -> Result<bool, AllocError>
-        ensures { IfOk result (λ went. (f : grammar.Factor) (l : machine.Level) (s : grammar.Script) (n q k : ℕ) → Held s self.old → FactorShows f self.old.nodes operand.0 → LevelShows l self.old.nodes self.old.level → reverse self.old.outer.items ≡ [] → Follows (Some (machine.items (grammar.declaration s place name.now n q (machine.sum_of l f) k))) went self.new) }
+        ensures { IfOk result (λ went. (f : grammar.Factor) (l : machine.Level) (n q k : ℕ) → FactorShows f self.old.nodes operand.0 → LevelShows l self.old.nodes self.old.level → FromScript (λ s. Some (machine.items (grammar.declaration s place name.now n q (machine.sum_of l f) k))) self.old went self.new) }
     {
         let level = mem::replace(&mut self.level, Level::new(alloc));
         let value = close_level(&mut self.nodes, level, operand)?;
@@ -244,7 +244,7 @@ impl<'a> Reader<'a> {
 
     // Reads the `;` of a `let` after an operand.
     fn end(&mut self, alloc: Global, operand: NodeId) -> Result<bool, AllocError>
-        ensures { IfOk result (λ went. (f : grammar.Factor) (l : machine.Level) (outer : machine.Outer) (k : ℕ) → Held (machine.script_of outer) self.old → FactorShows f self.old.nodes operand.0 → LevelShows l self.old.nodes self.old.level → OuterShows outer self.old.nodes (reverse self.old.outer.items) self.old.statement → Follows (machine.ended f l outer k) went self.new) }
+        ensures { IfOk result (λ went. (k : ℕ) → FromHave (λ f l outer. machine.ended f l outer k) operand self.old went self.new) }
     {
         if !self.outer.is_empty() {
             return Ok(false);
@@ -263,7 +263,7 @@ impl<'a> Reader<'a> {
         mark: Mark,
         place: u32,
     ) -> Result<bool, AllocError>
-        ensures { IfOk result (λ went. (f : grammar.Factor) (l : machine.Level) (outer : machine.Outer) → Held (machine.script_of outer) self.old → FactorShows f self.old.nodes operand.0 → LevelShows l self.old.nodes self.old.level → OuterShows outer self.old.nodes (reverse self.old.outer.items) self.old.statement → Follows (machine.marked f l outer place mark) went self.new) }
+        ensures { IfOk result (λ went. FromHave (λ f l outer. machine.marked f l outer place mark) operand self.old went self.new) }
     {
         match mark {
             Mark::Star => self.times(operand, place),
@@ -278,7 +278,7 @@ impl<'a> Reader<'a> {
 
     // Reads a token after an operand.
     fn had(&mut self, alloc: Global, operand: NodeId, token: &Token) -> Result<bool, AllocError>
-        ensures { IfOk result (λ went. (f : grammar.Factor) (l : machine.Level) (outer : machine.Outer) → Held (machine.script_of outer) self.old → FactorShows f self.old.nodes operand.0 → LevelShows l self.old.nodes self.old.level → OuterShows outer self.old.nodes (reverse self.old.outer.items) self.old.statement → Follows (machine.had f l outer token.now.from token.now.kind) went self.new) }
+        ensures { IfOk result (λ went. FromHave (λ f l outer. machine.had f l outer token.now.from token.now.kind) operand self.old went self.new) }
     {
         match &token.kind {
             TokenKind::Mark(mark) => self.marked(alloc, operand, *mark, token.from),
@@ -288,7 +288,7 @@ impl<'a> Reader<'a> {
 
     // Reads a token where a statement is wanted.
     fn next_item(&mut self, token: &Token) -> Result<bool, AllocError>
-        ensures { IfOk result (λ went. (s : grammar.Script) → Held s self.old → reverse self.old.outer.items ≡ [] → Follows (machine.next_item s token.now.from token.now.kind) went self.new) }
+        ensures { IfOk result (λ went. FromScript (λ s. machine.next_item s token.now.from token.now.kind) self.old went self.new) }
     {
         match &token.kind {
             TokenKind::Word(Word::Let) => {
@@ -308,7 +308,7 @@ impl<'a> Reader<'a> {
 
     // Reads the name that a `let` declares.
     fn let_name(&mut self, place: u32, token: &'a Token) -> Result<bool, AllocError>
-        ensures { IfOk result (λ went. (s : grammar.Script) → Held s self.old → reverse self.old.outer.items ≡ [] → Follows (machine.let_name s place token.now.from token.now.kind) went self.new) }
+        ensures { IfOk result (λ went. FromScript (λ s. machine.let_name s place token.now.from token.now.kind) self.old went self.new) }
     {
         match &token.kind {
             TokenKind::Name(name) => {
@@ -333,7 +333,7 @@ impl<'a> Reader<'a> {
         name: &'a str,
         token: &Token,
     ) -> Result<bool, AllocError>
-        ensures { IfOk result (λ went. (s : grammar.Script) (n : ℕ) → Held s self.old → reverse self.old.outer.items ≡ [] → Follows (machine.let_value s place name.now n token.now.from token.now.kind) went self.new) }
+        ensures { IfOk result (λ went. (n : ℕ) → FromScript (λ s. machine.let_value s place name.now n token.now.from token.now.kind) self.old went self.new) }
     {
         match &token.kind {
             TokenKind::Mark(Mark::Equals) => {
@@ -348,7 +348,7 @@ impl<'a> Reader<'a> {
 
     // Reads the `(` of a `print`.
     fn open_print(&mut self, place: u32, token: &Token) -> Result<bool, AllocError>
-        ensures { IfOk result (λ went. (s : grammar.Script) → Held s self.old → reverse self.old.outer.items ≡ [] → Follows (machine.print_opened s place token.now.from token.now.kind) went self.new) }
+        ensures { IfOk result (λ went. FromScript (λ s. machine.print_opened s place token.now.from token.now.kind) self.old went self.new) }
     {
         match &token.kind {
             TokenKind::Mark(Mark::Open) => {
@@ -361,7 +361,7 @@ impl<'a> Reader<'a> {
 
     // Reads a token where the first argument of a `print` or its `)` is wanted.
     fn argued(&mut self, alloc: Global, place: u32, token: &Token) -> Result<bool, AllocError>
-        ensures { IfOk result (λ went. (s : grammar.Script) (o : ℕ) → Held s self.old → reverse self.old.outer.items ≡ [] → Follows (machine.argued s place o token.now.from token.now.kind) went self.new) }
+        ensures { IfOk result (λ went. (o : ℕ) → FromScript (λ s. machine.argued s place o token.now.from token.now.kind) self.old went self.new) }
     {
         match &token.kind {
             TokenKind::Mark(Mark::Close) => {
@@ -383,7 +383,7 @@ impl<'a> Reader<'a> {
         arguments: PlainList<NodeId>,
         token: &Token,
     ) -> Result<bool, AllocError>
-        ensures { IfOk result (λ went. (s : grammar.Script) (o : ℕ) (a : grammar.Arguments) (k : ℕ) → Held s self.old → ArgumentsShow a self.old.nodes arguments → reverse self.old.outer.items ≡ [] → Follows (machine.print_ended s place o a k token.now.from token.now.kind) went self.new) }
+        ensures { IfOk result (λ went. (o : ℕ) (a : grammar.Arguments) (k : ℕ) → ArgumentsShow a self.old.nodes arguments → FromScript (λ s. machine.print_ended s place o a k token.now.from token.now.kind) self.old went self.new) }
     {
         match &token.kind {
             TokenKind::Mark(Mark::Semicolon) => {

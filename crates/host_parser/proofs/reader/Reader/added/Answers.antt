@@ -5,7 +5,7 @@ use Rattle.host_parser.proofs.Closes.{added_level}
 use Rattle.host_parser.proofs.reader.Reader.added.Goals as goal
 
 pub returns : goal.returns
-returns c = λ f l outer o same h hf hl ho. (
+returns c = λ o same f l outer h hf hl ho. (
   refl,
   (
     (script_kept c.args.self.now.nodes c.close_product.new.nodes (machine.script_of outer) c.args.self.now.top c.in_ok-node.ensures.grown h.0, h.1),

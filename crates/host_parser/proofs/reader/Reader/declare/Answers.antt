@@ -5,7 +5,7 @@ use Rattle.host_parser.proofs.Steps.{declares, knows_more}
 use Rattle.host_parser.proofs.reader.Reader.declare.Goals as goal
 
 pub returns : goal.returns
-returns c = λ f l s n q k h hf hl none. (
+returns c = λ f l n q k hf hl s h alone. (
   refl,
   (
     (
@@ -13,6 +13,6 @@ returns c = λ f l s n q k h hf hl none. (
           c.in_ok-value.ensures.grown (c.in_ok-value.ensures.shown l f (rw c.replace-level.ensures.value hl) hf) c.in_ok-id.ensures.id (rw c.in_ok-spelling.ensures at c.in_ok-id.ensures.nodes) c.in_ok-push.ensures.ok h.0,
       knows_more (grammar.declared_by s) c.args.self.now.names.keys c.insert.new.self.keys c.args.name c.in_ok-insert.ensures.updates.0 h.1,
     ),
-    none,
+    alone,
   ),
 )

@@ -5,7 +5,7 @@ use Rattle.host_parser.proofs.Steps.{prints}
 use Rattle.host_parser.proofs.reader.Reader.end_print.Goals as goal
 
 pub returns-in_ok-push-in-Mark-Semicolon : goal.returns-in_ok-push-in-Mark-Semicolon
-returns-in_ok-push-in-Mark-Semicolon c = λ s o a k h ha alone.
+returns-in_ok-push-in-Mark-Semicolon c = λ o a k ha s h alone.
     let next : machine.print_ended s c.args.place o a k c.args.token.now.from c.args.token.now.kind ≡ Some (machine.items (grammar.printing s c.args.place o a k c.args.token.now.from)) = search rules in
     rw next (
       refl,
