@@ -27,7 +27,7 @@ pub fn parse(alloc: Global, tokens: &[Token], len: u32) -> Result<Script, ParseE
     read(alloc, tokens, len)
 }
 
-// The same of any tokens.
+// The same of any tokens, in order or not.
 fn read(alloc: Global, tokens: &[Token], len: u32) -> Result<Script, ParseError>
     ensures found { IfOk result (λ s. (d : grammar.Script) × IsScript tokens.now d × ScriptShows d s.nodes s.top) }
     ensures only { (d : grammar.Script) → IsScript tokens.now d → Gives result d }
