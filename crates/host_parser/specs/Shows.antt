@@ -7,7 +7,7 @@ use Rattle.host_parser.specs.declared.script.Operand.{Operand}
 use Rattle.host_parser.specs.declared.script.Form.{Form}
 use Rattle.host_parser.specs.declared.script.Form.TheVariants as forms
 use Rattle.host_parser.specs.declared.script.Node.{Node}
-use Rattle.host_parser.specs.Grammar.{Additive, plus, minus, Sum, product, added, Product, factor, times, Factor, number, text, name, parens, Listed, single, comma, Arguments, none, listed, Script, nothing, declaration, printing}
+use Rattle.host_parser.specs.Grammar.{Additive, plus, minus, Sum, product, added, Product, factor, times, Factor, number, text, name, parens, Listed, single, comma, Arguments, none, listed, Script, nothing, declaration, printing, IsFine}
 
 -- the table has such a node at this number and place
 abbrev pub AtNode : List Node → ℕ → ℕ → (Form → Type 0) → Type 0
@@ -91,3 +91,7 @@ abbrev pub ScriptShows : Script → List Node → List NodeId → Type 0
 ScriptShows nothing nodes ids = ids ≡ []
 ScriptShows (declaration s l w n q e c) nodes ids = EndsIn ids (λ front x. ScriptShows s nodes front × AtNode nodes x.0 l (IsLet w (λ value. SumShows e nodes value)))
 ScriptShows (printing s p o a c e) nodes ids = EndsIn ids (λ front x. ScriptShows s nodes front × AtNode nodes x.0 p (IsPrint (λ arguments. ArgumentsShow a nodes arguments)))
+
+-- a table and the numbers of statements are those of some script with no fault
+abbrev pub IsTree : List Node → List NodeId → Type 0
+IsTree nodes top = (d : Script) × IsFine d × ScriptShows d nodes top

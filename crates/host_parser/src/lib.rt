@@ -1,6 +1,10 @@
 //! The tree of a script.
 #![tactic(auto)]
 
+mod chain;
+mod parser;
+mod reader;
 mod script;
 
+pub use parser::parse;
 pub use script::{Form, Node, NodeId, Operand, Operator, ParseError, Script};

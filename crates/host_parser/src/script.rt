@@ -1,3 +1,5 @@
+ghost use Rattle.host_parser.specs.Shows.{IsTree};
+
 use embed_base::{PlainList, PlainString};
 use std::alloc::AllocError;
 use thiserror::Error;
@@ -44,12 +46,13 @@ pub struct Node {
 }
 
 /// A script's tree: its statements in their order, the table of all nodes, and the length of its text. A node stands in
-/// the table after its parts.
+/// the table after its parts. The table is always that of a script of the grammar.
 #[derive(Debug, Drop)]
 pub struct Script {
     pub top: PlainList<NodeId>,
     pub nodes: PlainList<Node>,
     pub len: u32,
+    pub ghost tree: { ∥ IsTree nodes top ∥₁ },
 }
 
 /// Why tokens are no script.

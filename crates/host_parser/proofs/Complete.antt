@@ -1,0 +1,121 @@
+-- The machine reads what a derivation spells, where the derivation is fine.
+use Rattle.std.specs.Prelude.{◌≡◌, ℕ, ◌+◌, ◌<◌, ◌≤◌, List, ◌∷◌, true, nat_lt, refl}
+use Rattle.std.proofs.Common.{◌∙◌, ap, arith}
+use Rattle.std.proofs.lemmas.Bool.Decides.{nat_tests}
+use Rattle.host_lexer.specs.declared.token.Word.TheVariants as words
+use Rattle.host_lexer.specs.declared.token.Mark.TheVariants as marks
+use Rattle.host_lexer.specs.declared.token.TokenKind.TheVariants as kinds
+use Rattle.host_parser.specs.Grammar.{plus, minus, Sum, product, added, Product, factor, times, Factor, number, text, name, parens, Listed, single, comma, Arguments, none, listed, Script, nothing, declaration, printing, Sign, at, sum_then, product_then, factor_then, listed_then, arguments_then, script_then, print_name, declared_by, most_open, sum_depth, product_depth, factor_depth, listed_depth, arguments_depth, SumUses, ProductUses, FactorUses, ListedUses, ArgumentsUse, IsFine}
+use Rattle.host_parser.specs.Machine.{BeforeSum, no_sum, sum_before, BeforeProduct, no_product, product_before, BeforeListed, no_listed, listed_before, Level, level, fresh, Outer, in_let, in_print, in_parens, State, items, argument, printed, want, have, product_with, sum_with, listed_with, script_of, open_in, run}
+use Rattle.host_parser.proofs.Known.{contains_known, lacks_known, other_bytes}
+
+-- the last operand of a chain, and what stands before it
+abbrev pub before_last : Product → BeforeProduct
+before_last (factor f) = no_product
+before_last (times m k f) = product_before m k
+
+abbrev pub last : Product → Factor
+last (factor f) = f
+last (times m k f) = f
+
+abbrev pub before_last_sum : Sum → BeforeSum
+before_last_sum (product m) = no_sum
+before_last_sum (added a o k m) = sum_before a o k
+
+abbrev pub last_sum : Sum → Product
+last_sum (product m) = m
+last_sum (added a o k m) = m
+
+abbrev pub before_last_listed : Listed → BeforeListed
+before_last_listed (single e) = no_listed
+before_last_listed (comma l k e) = listed_before l k
+
+abbrev pub last_listed : Listed → Sum
+last_listed (single e) = e
+last_listed (comma l k e) = e
+
+-- the state after a part, in what is open around it
+abbrev pub after_product : BeforeSum → Product → Outer → State
+after_product a m outer = have (last m) (level a (before_last m)) outer
+
+abbrev pub after_sum : Sum → Outer → State
+after_sum e outer = after_product (before_last_sum e) (last_sum e) outer
+
+-- closing gives the part again
+product_again : (m : Product) → product_with (before_last m) (last m) ≡ m
+product_again (factor f) = refl
+product_again (times m k f) = refl
+
+sum_again : (e : Sum) → sum_with (before_last_sum e) (product_with (before_last (last_sum e)) (last (last_sum e))) ≡ e
+sum_again (product m) = ap product (product_again m)
+sum_again (added a o k m) = ap (added a o k) (product_again m)
+
+listed_again : (l : Listed) → listed_with (before_last_listed l) (last_listed l) ≡ l
+listed_again (single e) = refl
+listed_again (comma l k e) = refl
+
+-- a sum begins with one of these
+module _ (P : List Sign → Type 0) (at_number : (n k : ℕ) (y : List Sign) → P (at (kinds.Number n) k ∷ y)) (at_text : (s : List ℕ) (k : ℕ) (y : List Sign) → P (at (kinds.Text s) k ∷ y))
+    (at_name : (w : List ℕ) (k : ℕ) (y : List Sign) → P (at (kinds.Name w) k ∷ y)) (at_open : (k : ℕ) (y : List Sign) → P (at (kinds.Mark marks.Open) k ∷ y)) where
+  factor_begins : (f : Factor) (y : List Sign) → P (factor_then f y)
+  factor_begins (number n k) y = at_number n k y
+  factor_begins (text s k) y = at_text s k y
+  factor_begins (name w k) y = at_name w k y
+  factor_begins (parens o e c) y = at_open o _
+
+  product_begins : (m : Product) (y : List Sign) → P (product_then m y)
+  product_begins (factor f) y = factor_begins f y
+  product_begins (times m k f) y = product_begins m _
+
+  sum_begins : (e : Sum) (y : List Sign) → P (sum_then e y)
+  sum_begins (product m) y = product_begins m y
+  sum_begins (added a o k m) y = sum_begins a _
+
+-- an argument is begun, and not the end of the arguments
+argument_begins : (s : Script) (p o : ℕ) (e : Sum) (y : List Sign) → run (argument s p o) (sum_then e y) ≡ run (want fresh (in_print s p o no_listed)) (sum_then e y)
+argument_begins s p o = sum_begins (λ y. run (argument s p o) y ≡ run (want fresh (in_print s p o no_listed)) y) (λ n k y. refl) (λ v k y. refl) (λ w k y. refl) (λ k y. refl)
+
+opens : (n : ℕ) → n < most_open → nat_lt n most_open ≡ true
+opens n h = grind (arith, nat_tests)
+
+mutual
+  pub run_factor : (f : Factor) (l : Level) (outer : Outer) (y : List Sign) → FactorUses (declared_by (script_of outer)) f → factor_depth f + open_in outer ≤ most_open
+      → run (want l outer) (factor_then f y) ≡ run (have f l outer) y
+  run_factor (number n k) l outer y u d = refl
+  run_factor (text s k) l outer y u d = refl
+  run_factor (name w k) l outer y u d = rw (contains_known (declared_by (script_of outer)) w u, run) refl
+  run_factor (parens o e c) l outer y u d = rw (opens (open_in outer) (omega arith), run) (run_sum e (in_parens o l outer) (at (kinds.Mark marks.Close) c ∷ y) u (omega arith) ∙ rw (sum_again e, run) refl)
+
+  pub run_product : (m : Product) (a : BeforeSum) (outer : Outer) (y : List Sign) → ProductUses (declared_by (script_of outer)) m → product_depth m + open_in outer ≤ most_open
+      → run (want (level a no_product) outer) (product_then m y) ≡ run (after_product a m outer) y
+  run_product (factor f) a outer y u d = run_factor f (level a no_product) outer y u d
+  run_product (times m k f) a outer y u d = run_product m a outer (at (kinds.Mark marks.Star) k ∷ factor_then f y) u.0 (omega arith)
+      ∙ rw (product_again m, run) (run_factor f (level a (product_before m k)) outer y u.1 (omega arith))
+
+  pub run_sum : (e : Sum) (outer : Outer) (y : List Sign) → SumUses (declared_by (script_of outer)) e → sum_depth e + open_in outer ≤ most_open
+      → run (want fresh outer) (sum_then e y) ≡ run (after_sum e outer) y
+  run_sum (product m) outer y u d = run_product m no_sum outer y u d
+  run_sum (added a plus k m) outer y u d = run_sum a outer (at (kinds.Mark marks.Plus) k ∷ product_then m y) u.0 (omega arith)
+      ∙ rw (sum_again a, run) (run_product m (sum_before a plus k) outer y u.1 (omega arith))
+  run_sum (added a minus k m) outer y u d = run_sum a outer (at (kinds.Mark marks.Minus) k ∷ product_then m y) u.0 (omega arith)
+      ∙ rw (sum_again a, run) (run_product m (sum_before a minus k) outer y u.1 (omega arith))
+
+run_listed : (l : Listed) (s : Script) (p o : ℕ) (y : List Sign) → ListedUses (declared_by s) l → listed_depth l + 1 ≤ most_open
+    → run (argument s p o) (listed_then l y) ≡ run (after_sum (last_listed l) (in_print s p o (before_last_listed l))) y
+run_listed (single e) s p o y u d = argument_begins s p o e y ∙ run_sum e (in_print s p o no_listed) y u d
+run_listed (comma l k e) s p o y u d = run_listed l s p o (at (kinds.Mark marks.Comma) k ∷ sum_then e y) u.0 (omega arith)
+    ∙ rw (sum_again (last_listed l), listed_again l, run) (run_sum e (in_print s p o (listed_before l k)) y u.1 (omega arith))
+
+run_arguments : (a : Arguments) (s : Script) (p o c : ℕ) (y : List Sign) → ArgumentsUse (declared_by s) a → arguments_depth a + 1 ≤ most_open
+    → run (argument s p o) (arguments_then a (at (kinds.Mark marks.Close) c ∷ y)) ≡ run (printed s p o a c) y
+run_arguments none s p o c y u d = refl
+run_arguments (listed l) s p o c y u d = run_listed l s p o (at (kinds.Mark marks.Close) c ∷ y) u d ∙ rw (sum_again (last_listed l), listed_again l, run) refl
+
+pub run_script : (d : Script) (y : List Sign) → IsFine d → run (items nothing) (script_then d y) ≡ run (items d) y
+run_script nothing y h = refl
+run_script (declaration s l w n q e c) y h =
+    run_script s (at (kinds.Word words.Let) l ∷ at (kinds.Name w) n ∷ at (kinds.Mark marks.Equals) q ∷ sum_then e (at (kinds.Mark marks.Semicolon) c ∷ y)) h.0
+    ∙ rw (other_bytes w print_name h.2, lacks_known (declared_by s) w h.1, run) (run_sum e (in_let s l w n q) (at (kinds.Mark marks.Semicolon) c ∷ y) h.3 (omega arith) ∙ rw (sum_again e, run) refl)
+run_script (printing s p o a c e) y h =
+    run_script s (at (kinds.Name print_name) p ∷ at (kinds.Mark marks.Open) o ∷ arguments_then a (at (kinds.Mark marks.Close) c ∷ at (kinds.Mark marks.Semicolon) e ∷ y)) h.0
+    ∙ run_arguments a s p o c (at (kinds.Mark marks.Semicolon) e ∷ y) h.1 h.2

@@ -1,0 +1,9 @@
+mod Cases
+pub mod Closes
+pub mod Complete
+pub mod Fine
+pub mod Grow
+pub mod Known
+pub mod Main
+pub mod Sound
+pub mod Steps
