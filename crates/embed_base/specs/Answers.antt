@@ -1,5 +1,5 @@
 -- A fact for one answer of a call to the outside world.
-use Rattle.std.specs.Prelude.{Result, Ok, Err}
+use Rattle.std.specs.Prelude.{Result, Err}
 use Rattle.embed_base.specs.declared.files.FileError.{FileError}
 use Rattle.embed_base.specs.declared.files.FileError.TheVariants as files
 use Rattle.embed_base.specs.declared.sink.SinkError.{SinkError}

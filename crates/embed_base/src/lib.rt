@@ -25,3 +25,6 @@ pub use real_sink::RealSink;
 pub use shared_string::SharedString;
 pub use sink::{Sink, SinkError};
 pub use status::Status;
+
+#[cfg(test)]
+mod tests;

@@ -37,7 +37,7 @@ pub const MOST_TEXT_BYTES: u64 = 1_048_576;
 pub const MOST_ACTIVATIONS: u32 = 10_000;
 
 /// The constructs of a script that are open at once.
-pub const MOST_OPEN: u32 = 256;
+pub const MOST_OPEN: usize = 256;
 
 /// The blocks of a function that are nested, the body not counted.
 pub const MOST_BLOCKS: u32 = 256;

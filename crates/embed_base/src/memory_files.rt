@@ -1,5 +1,6 @@
-ghost use Rattle.std.specs.Prelude.{◌≡◌, [], ◌∷◌, None, Some, IfNone, IfSome, is_none};
+ghost use Rattle.std.specs.Prelude.{◌≡◌, ◌≤◌, [], ◌∷◌, None, Some, IfNone, IfSome, is_none, string_bytes};
 ghost use Rattle.std.specs.Option.{option_copied};
+ghost use Rattle.embed_base.specs.Counts.{raised};
 ghost use Rattle.embed_base.specs.Contents.{contents_of, content_of, content_or_empty};
 
 use crate::files::{FileError, Files};
@@ -54,6 +55,17 @@ impl MemFiles {
             failed: None,
         }
     }
+
+    // Counts a read of this name that failed.
+    fn fail(&mut self, name: String) -> FileError
+        ensures answer { result ≡ FileError.Failed }
+        ensures counted { self.new ≡ record self.old { faults = raised self.old.faults 1; failed = Some (string_bytes name) } }
+        ensures faults_stay { self.old.faults ≤ self.new.faults }
+    {
+        self.faults = self.faults.saturating_add(1);
+        self.failed = Some(name);
+        FileError::Failed
+    }
 }
 
 impl Files for MemFiles {
@@ -79,14 +91,10 @@ impl Files for MemFiles {
         self.calls = call.saturating_add(1);
         let asked = String::from_str(alloc, name)?;
         if self.fail_at.contains(&call) {
-            self.faults = self.faults.saturating_add(1);
-            self.failed = Some(asked);
-            return Err(FileError::Failed);
+            return Err(self.fail(asked));
         }
         let Some(content) = find(&self.files, name) else {
-            self.faults = self.faults.saturating_add(1);
-            self.failed = Some(asked);
-            return Err(FileError::Failed);
+            return Err(self.fail(asked));
         };
         if content.len() as u64 > limit {
             return Err(FileError::TooLong);

@@ -1,8 +1,7 @@
 -- The map of names after a declaration.
-use Rattle.std.proofs.Common.{◌≡◌, ℕ, List, Option, Some, String, Global, string_bytes, sym, ap, ◌∙◌, cond, Bool}
+use Rattle.std.proofs.Common.{◌≡◌, ℕ, List, Some, String, Global, string_bytes, ap, ◌∙◌, cond}
 use Rattle.std.proofs.lemmas.Map.Text.{hash_map_updates_text}
 use Rattle.std.specs.HashMap as hash
-use Rattle.std.specs.HashMap.{get_by_text}
 use Rattle.std.specs.Str.{bytes_eq}
 use Rattle.std.specs.String.{string_eq}
 use Rattle.embed_cmd.specs.declared.value.Value.{Value}

@@ -1,8 +1,6 @@
 -- What the tasks of a node give: an operand its value, and a chain what its operands and operators give.
-use Rattle.std.proofs.Common.{◌≡◌, ℕ, zero, suc, ◌+◌, ◌<◌, List, [], ◌∷◌, ◌++◌, Option, Some, None, Result, Ok, Err, IsSomeAnd, slice_get, ◌-◌, ◌≤◌, length, reverse, take, get_or, arith, refl, sym, ap, ◌∙◌, subst, append_assoc, pos}
+use Rattle.std.proofs.Common.{◌≡◌, ℕ, suc, ◌+◌, ◌<◌, List, [], ◌∷◌, ◌++◌, Option, Some, Ok, Err, IsSomeAnd, slice_get, length, reverse, take, get_or, refl, sym, ap, ◌∙◌, subst, append_assoc, pos}
 use Rattle.std.proofs.lemmas.List.{take_more, reverse-append}
-use Rattle.embed_base.specs.declared.outside.OutsideKind.TheVariants as kinds
-use Rattle.embed_base.specs.declared.outside.Outside.{Outside}
 use Rattle.host_parser.specs.declared.script.NodeId.{NodeId}
 use Rattle.host_parser.specs.declared.script.Operator.{Operator}
 use Rattle.host_parser.specs.declared.script.Operator.TheVariants as operators

@@ -1,12 +1,12 @@
 -- The transcript of a script's bytes and of its file, and that there is no other.
-use Rattle.std.proofs.Common.{◌≡◌, ℕ, ◌<◌, ◌≤◌, List, Option, Some, None, Result, Ok, Err, IfOk, IfSome, length, refl, sym, ap, ◌∙◌, subst, inl, inr, arith}
+use Rattle.std.proofs.Common.{◌≡◌, ℕ, ◌<◌, ◌≤◌, List, Option, Some, None, Result, Ok, Err, IfOk, IfSome, length, sym, ◌∙◌, subst, inl, inr, arith}
 use Rattle.std.specs.declared.alloc.AllocError.{AllocError}
 use Rattle.host_parser.specs.declared.script.Script.{Script as Tree}
 use Rattle.host_parser.specs.Grammar.{Script}
 use Rattle.host_parser.specs.Shows.{ScriptShows}
 use Rattle.embed_cmd.specs.declared.transcript.Transcript.{Transcript}
 use Rattle.embed_cmd.specs.Outcome.{outcome_of, transcript_of}
-use Rattle.embed_cmd.specs.Transcript.{IsScriptText, IsScriptTranscript, IsTheScriptTranscript, IsFileTranscript, IsTheFileTranscript, refused, too_long, most_script_bytes}
+use Rattle.embed_cmd.specs.Transcript.{IsScriptText, IsTheScriptTranscript, IsTheFileTranscript, refused, too_long, most_script_bytes}
 use Rattle.embed_cmd.specs.Reading.{IsTree}
 
 refused_only : (bytes : List ℕ) (t : Transcript) → ((d : Script) → IsScriptText bytes d → ⊥) → t ≡ refused → IsTheScriptTranscript bytes t

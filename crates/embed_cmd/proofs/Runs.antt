@@ -1,5 +1,5 @@
 -- The statements of a script, one after the other.
-use Rattle.std.proofs.Common.{◌≡◌, ℕ, zero, suc, ◌+◌, ◌<◌, List, [], ◌∷◌, ◌++◌, Option, Some, None, Result, Ok, Err, IsSomeAnd, slice_get, length, drop, get_or, fold, refl, sym, ap, ◌∙◌, subst, string_bytes}
+use Rattle.std.proofs.Common.{◌≡◌, ℕ, ◌+◌, ◌<◌, List, [], ◌∷◌, ◌++◌, Option, Some, None, Err, IsSomeAnd, slice_get, length, drop, get_or, fold, refl, sym, ap, ◌∙◌, subst, string_bytes}
 use Rattle.std.proofs.lemmas.List.{drop_more}
 use Rattle.std.proofs.Math.Seq.{drop-length}
 use Rattle.std.specs.HashMap as hash
@@ -11,14 +11,14 @@ use Rattle.host_parser.specs.declared.script.Form.{Form}
 use Rattle.host_parser.specs.declared.script.Form.TheVariants as forms
 use Rattle.host_parser.specs.declared.script.Node.{Node}
 use Rattle.host_parser.specs.Grammar.{Sum, Listed, single, comma, Arguments, none, listed, Script, nothing, declaration, printing}
-use Rattle.host_parser.specs.Shows.{SumShows, IsLet, IsPrint, ListedShows, ArgumentsShow, ScriptShows}
+use Rattle.host_parser.specs.Shows.{IsPrint, ListedShows, ArgumentsShow, ScriptShows}
 use Rattle.embed_cmd.specs.declared.run.Run.{Run}
 use Rattle.embed_cmd.specs.declared.stop.Stop.{Stop}
 use Rattle.embed_cmd.specs.declared.stop.Stop.TheVariants as stops
 use Rattle.embed_cmd.specs.Evaluation.{Bindings}
-use Rattle.embed_cmd.specs.Outcome.{Statement, declares, prints, listed_expressions, expressions_of, statements_of, Progress, going, ended, performed, start, run_of, Outcome, outcome_of, outcome_of_progress, done, outside}
+use Rattle.embed_cmd.specs.Outcome.{Statement, declares, prints, listed_expressions, expressions_of, statements_of, Progress, going, ended, performed, run_of, outcome_of, outcome_of_progress, done}
 use Rattle.embed_cmd.specs.Tasks.{IsBoundAs}
-use Rattle.embed_cmd.specs.Runs.{SumsShow, StatementShows, StatementsShow, FormShows, HasPrinted, Stands, EndedBy, Performs}
+use Rattle.embed_cmd.specs.Runs.{SumsShow, StatementShows, StatementsShow, FormShows, HasPrinted, Stands, Performs}
 
 sums_append : (nodes : List Node) (es fs : List Sum) (ids js : List NodeId) → SumsShow nodes es ids → SumsShow nodes fs js → SumsShow nodes (es ++ fs) (ids ++ js)
 sums_append nodes [] fs [] js h k = k

@@ -1,25 +1,24 @@
 -- One step of an evaluation.
-use Rattle.std.proofs.Common.{◌≡◌, ℕ, zero, suc, ◌+◌, ◌<◌, ◌≤◌, List, [], ◌∷◌, ◌++◌, Option, Some, None, Result, Ok, Err, IsSomeAnd, slice_get, get_or, length, reverse, OnOk, inl, inr, Vec, Global, refl, sym, ap, ◌∙◌, subst, arith, length-append}
+use Rattle.std.proofs.Common.{◌≡◌, ℕ, suc, ◌+◌, ◌<◌, List, [], ◌∷◌, ◌++◌, Option, Some, Result, Ok, Err, IsSomeAnd, slice_get, get_or, length, reverse, OnOk, inl, inr, Vec, Global, refl, sym, ap, ◌∙◌, subst, arith}
 use Rattle.std.proofs.lemmas.List.{reverse-append, length-reverse}
-use Rattle.std.proofs.lemmas.List.Sums.{sum_by-append, sum_by-cons}
+use Rattle.std.proofs.lemmas.List.Sums.{sum_by-append}
 use Rattle.std.proofs.lemmas.Option.{slice_get_cases, slice_get_read}
 use Rattle.embed_base.specs.declared.outside.Outside.{Outside}
 use Rattle.host_parser.specs.declared.script.NodeId.{NodeId}
-use Rattle.host_parser.specs.declared.script.Operator.{Operator}
 use Rattle.host_parser.specs.declared.script.Operand.{Operand}
 use Rattle.host_parser.specs.declared.script.Form.{Form}
 use Rattle.host_parser.specs.declared.script.Form.TheVariants as forms
 use Rattle.host_parser.specs.declared.script.Node.{Node}
 use Rattle.host_parser.specs.Grammar.{Sum, product, added, Product, factor, times, Factor, number, text, name, parens}
-use Rattle.host_parser.specs.Shows.{AtNode, SumShows, ProductShows, FactorShows}
+use Rattle.host_parser.specs.Shows.{SumShows, ProductShows, FactorShows}
 use Rattle.embed_cmd.specs.declared.value.Value.{Value}
 use Rattle.embed_cmd.specs.declared.evaluate.Task.{Task}
 use Rattle.embed_cmd.specs.declared.evaluate.Task.TheVariants as tasks
 use Rattle.embed_cmd.specs.declared.stop.Stop.{Stop}
 use Rattle.embed_cmd.specs.declared.stop.Stop.TheVariants as stops
 use Rattle.embed_cmd.specs.Stops.{Meets}
-use Rattle.embed_cmd.specs.Evaluation.{Bindings, Answer, sum_value, and_then, operated}
-use Rattle.embed_cmd.specs.Tasks.{Todo, evaluates, applies, perform, applied, Fits, TodosShow, chain_tasks, tasks_size, task_size, size_of, Continues, Steps, last_value}
+use Rattle.embed_cmd.specs.Evaluation.{Bindings, Answer, sum_value, and_then}
+use Rattle.embed_cmd.specs.Tasks.{Todo, evaluates, perform, Fits, TodosShow, chain_tasks, tasks_size, task_size, size_of, Continues, Steps, last_value}
 use Rattle.embed_cmd.proofs.Sizes.{chain_smaller, size_least}
 use Rattle.embed_cmd.proofs.Chains.{ReadsChain, Reads, reads_sum, show_append}
 

@@ -1,6 +1,6 @@
 -- What expressions give (ECMA-262, sections 13.2, 13.7 and 13.8, in the profile): operands are evaluated from left to
 -- right, and the first refusal is the expression's.
-use Rattle.std.specs.Prelude.{ℕ, List, [], ◌∷◌, ◌++◌, Option, Some, None, Result, Ok, Err, pos}
+use Rattle.std.specs.Prelude.{ℕ, List, [], ◌∷◌, Option, Some, None, Result, Ok, Err, pos}
 use Rattle.embed_base.specs.declared.outside.OutsideKind.{OutsideKind}
 use Rattle.embed_base.specs.declared.outside.OutsideKind.TheVariants as kinds
 use Rattle.embed_base.specs.declared.outside.Place.TheVariants as places

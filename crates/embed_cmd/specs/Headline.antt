@@ -1,5 +1,5 @@
 -- How the program's run answers the transcript of its command line.
-use Rattle.std.specs.Prelude.{◌≡◌, ℕ, ◌⊎◌, List, ◌++◌, take, Option, Some, None, IsSomeAnd, ◌<◌}
+use Rattle.std.specs.Prelude.{◌≡◌, ℕ, List, ◌++◌, take, Option, None, IsSomeAnd}
 use Rattle.std.specs.Option.{option_map}
 use Rattle.embed_base.specs.declared.status.Status.{Status}
 use Rattle.embed_base.specs.declared.status.Status.TheVariants as statuses

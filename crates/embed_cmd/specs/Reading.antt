@@ -1,11 +1,10 @@
 -- What reading a script gives. No public clause cites this.
-use Rattle.std.specs.Prelude.{◌≡◌, ℕ, List, Result, Ok, Err, ◌<◌, Option, Some}
+use Rattle.std.specs.Prelude.{ℕ, List, Result, Err}
 use Rattle.host_parser.specs.declared.script.Script.{Script as Tree}
 use Rattle.host_parser.specs.Grammar.{Script}
 use Rattle.host_parser.specs.Shows.{ScriptShows}
 use Rattle.embed_base.specs.declared.status.Status.{Status}
 use Rattle.embed_base.specs.declared.status.Status.TheVariants as statuses
-use Rattle.embed_base.specs.Counts.{Rose}
 use Rattle.embed_cmd.specs.declared.main_run.Fault.{Fault}
 use Rattle.embed_cmd.specs.declared.main_run.Fault.TheVariants as faults
 use Rattle.embed_cmd.specs.Transcript.{IsScriptText}

@@ -1,6 +1,6 @@
 -- How an expression is evaluated without recursion: a list of tasks, the next one first, over a list of values, the last
 -- one first. No public clause cites this.
-use Rattle.std.specs.Prelude.{◌≡◌, ℕ, zero, suc, ◌+◌, ◌<◌, List, [], ◌∷◌, ◌++◌, reverse, length, Option, Some, None, Result, Ok, Err, slice_get, sum_by}
+use Rattle.std.specs.Prelude.{◌≡◌, ℕ, zero, suc, ◌+◌, ◌<◌, List, [], ◌∷◌, reverse, length, Option, Some, None, Result, Ok, Err, slice_get, sum_by}
 use Rattle.std.specs.declared.alloc.Global.{Global}
 use Rattle.std.specs.declared.string.String.{String}
 use Rattle.std.specs.declared.vec.Vec.{Vec}
@@ -8,7 +8,6 @@ use Rattle.std.specs.declared.hash.FoldHasher.{FoldHasher}
 use Rattle.std.specs.declared.hash.BuildHasherDefault.{BuildHasherDefault}
 use Rattle.std.specs.HashMap.{HashMap, get_by_text}
 use Rattle.embed_base.specs.declared.outside.OutsideKind.TheVariants as kinds
-use Rattle.embed_base.specs.declared.outside.Outside.{Outside}
 use Rattle.host_parser.specs.declared.script.NodeId.{NodeId}
 use Rattle.host_parser.specs.declared.script.Operator.{Operator}
 use Rattle.host_parser.specs.declared.script.Operand.{Operand}

@@ -1,7 +1,6 @@
 -- The transcript of a command line over the contents of the files.
 use Rattle.std.specs.Prelude.{◌≡◌, ℕ, ◌<◌, ◌≤◌, ◌⊎◌, List, [], ◌∷◌, ◌++◌, length, Option, IsSomeAnd, MatchOption, codes}
 use Rattle.std.specs.Str.{IsUtf8}
-use Rattle.embed_base.specs.declared.status.Status.{Status}
 use Rattle.embed_base.specs.declared.status.Status.TheVariants as statuses
 use Rattle.host_lexer.specs.declared.token.Token.{Token}
 use Rattle.host_lexer.specs.Tokens.{HasTokens}

@@ -210,3 +210,6 @@ pub fn run_main<F: Files, O: Sink>(
         Err(Fault::NoMemory) => Status::NoMemory,
     }
 }
+
+#[cfg(test)]
+mod tests;

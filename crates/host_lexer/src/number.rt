@@ -2,9 +2,7 @@ ghost use Rattle.std.specs.Prelude.{◌≡◌, ◌↔◌, IsTrue, true, All, Mat
 ghost use Rattle.host_lexer.specs.Tokens as spec;
 
 use crate::bytes::is_digit;
-
-// The greatest whole number that a Number may be: every whole number up to it has a Number of its own.
-const GREATEST_NUMBER: u64 = 9_007_199_254_740_991;
+use embed_base::limits::GREATEST_NUMBER;
 
 // Whether the bytes are digits.
 fn are_digits(bytes: &[u8]) -> bool

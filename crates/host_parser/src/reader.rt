@@ -8,14 +8,12 @@ ghost use Rattle.host_parser.specs.Reading.{OuterShows, Held, Shows, Follows, Fr
 
 use crate::chain::{Level, add, close_level, close_product};
 use crate::script::{Form, Node, NodeId, Operand, Operator};
+use embed_base::limits::MOST_OPEN;
 use embed_base::{PlainList, PlainString};
 use host_lexer::{Mark, Token, TokenKind, Word};
 use std::alloc::{AllocError, Global};
 use std::collections::HashSet;
 use std::mem;
-
-/// How many parentheses may be open at once, the one of a `print` among them.
-pub const MOST_OPEN: usize = 256;
 
 /// The statement around an expression.
 #[derive(Drop)]

@@ -1,4 +1,4 @@
-use Rattle.std.proofs.Common.{◌≡◌, ◌≤◌, None, true, false, length, drop, refl, sym, ap, ◌∙◌, string_bytes, arith}
+use Rattle.std.proofs.Common.{◌≡◌, true, false, length, drop, refl, sym, ap, ◌∙◌, string_bytes, arith}
 use Rattle.std.proofs.Math.Seq.{drop-length}
 use Rattle.std.specs.Str.{bytes_eq}
 use Rattle.embed_base.proofs.FirstFile.{content_in, found_here, not_here}

@@ -1,4 +1,4 @@
-use Rattle.std.proofs.Common.{◌≡◌, ◌+◌, ◌-◌, ◌∙◌, arith}
+use Rattle.std.proofs.Common.{◌-◌, ◌∙◌, arith}
 use Rattle.host_parser.specs.declared.script.Operator.TheVariants as operators
 use Rattle.embed_cmd.proofs.Chains.{pushed}
 use Rattle.embed_cmd.proofs.evaluate.push_chain.Goals as goal

@@ -1,4 +1,4 @@
-use Rattle.std.proofs.Common.{◌≡◌, ◌+◌, ◌++◌, ◌∷◌, [], ◌∙◌, ap, sym, take, string_bytes, append_assoc, arith}
+use Rattle.std.proofs.Common.{◌++◌, ◌∷◌, [], ◌∙◌, ap, sym, take, string_bytes, append_assoc, arith}
 use Rattle.embed_cmd.specs.Values.{shown_of}
 use Rattle.embed_cmd.specs.Outcome.{line_of}
 use Rattle.embed_cmd.proofs.Lines.{line_next, line_first}

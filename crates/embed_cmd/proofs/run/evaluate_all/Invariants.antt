@@ -1,7 +1,7 @@
 -- The values so far, and those of the expressions that are left, are the values of all.
-use Rattle.std.proofs.Common.{◌≡◌, ◌++◌, List, drop}
+use Rattle.std.proofs.Common.{List, drop}
 use Rattle.host_parser.specs.Grammar.{Sum}
-use Rattle.embed_cmd.specs.Evaluation.{Bindings, values_of}
+use Rattle.embed_cmd.specs.Evaluation.{Bindings}
 use Rattle.embed_cmd.specs.Tasks.{IsBoundAs}
 use Rattle.embed_cmd.specs.Runs.{SumsShow}
 use Rattle.embed_cmd.proofs.Lines.{ValuesLeft}

@@ -1,5 +1,5 @@
-use Rattle.std.proofs.Common.{◌≡◌, length, arith, ◌∙◌, sym, ap, subst, IfOk, Ok}
-use Rattle.embed_cmd.specs.Outcome.{going, performed, run_of, outcome_of, outcome_of_progress, transcript_of}
+use Rattle.std.proofs.Common.{◌≡◌, length, arith, ◌∙◌, sym, ap}
+use Rattle.embed_cmd.specs.Outcome.{going, performed, run_of, transcript_of}
 use Rattle.embed_cmd.proofs.Runs.{begun_left, first_left, performed_left, stopped_left, done_outcome}
 use Rattle.embed_cmd.proofs.run.perform_all.Goals as goal
 

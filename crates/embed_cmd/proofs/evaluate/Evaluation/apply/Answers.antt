@@ -1,5 +1,5 @@
 -- The last two values, and what an operator makes of them.
-use Rattle.std.proofs.Common.{◌≡◌, ◌++◌, ◌∷◌, [], suc, length, reverse, subst, sym, ap, ◌∙◌, arith, length-append}
+use Rattle.std.proofs.Common.{◌≡◌, ◌++◌, ◌∷◌, [], suc, length, subst, sym, ap, ◌∙◌, arith, length-append}
 use Rattle.std.specs.Option.{option_to_list}
 use Rattle.embed_cmd.specs.Evaluation.{operated}
 use Rattle.embed_cmd.specs.Tasks.{applies, applied, perform, Fits, Steps}

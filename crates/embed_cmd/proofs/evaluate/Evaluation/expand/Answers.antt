@@ -3,10 +3,7 @@ use Rattle.std.proofs.Common.{rules, ◌<◌, ◌+◌, ◌++◌, ap, ◌∙◌, 
 use Rattle.std.proofs.lemmas.List.{length-reverse}
 use Rattle.std.proofs.lemmas.Option.{slice_get_read}
 use Rattle.embed_cmd.specs.declared.evaluate.Task.{Task}
-use Rattle.host_parser.specs.declared.script.Form.TheVariants as forms
-use Rattle.embed_cmd.specs.declared.value.Value.TheVariants as values
-use Rattle.embed_cmd.specs.Operators.{number_of}
-use Rattle.embed_cmd.specs.Evaluation.{sum_value, at_place, named}
+use Rattle.embed_cmd.specs.Evaluation.{sum_value}
 use Rattle.embed_cmd.specs.Tasks.{tasks_size, size_of, top_first, chain_tasks}
 use Rattle.embed_cmd.proofs.Steps.{on_ok, sum_in_range, read_form, meets_same, chain_step, chain_shrinks, value_shrinks}
 use Rattle.embed_cmd.proofs.evaluate.Evaluation.expand.Goals as goal
