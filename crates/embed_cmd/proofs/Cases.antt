@@ -1,5 +1,5 @@
 -- Worked cases of the definitions, each by computation. How a number is written in decimal is left to the standard library.
-use Rattle.std.proofs.Common.{◌≡◌, ℕ, List, [], ◌∷◌, ◌++◌, Some, None, Ok, Err, refl, pos, negsuc, codes}
+use Rattle.std.proofs.Common.{◌≡◌, ℕ, [], ◌∷◌, ◌++◌, Some, None, Ok, Err, refl, pos, negsuc, codes}
 use Rattle.embed_base.specs.declared.status.Status.TheVariants as statuses
 use Rattle.embed_base.specs.declared.outside.OutsideKind.TheVariants as kinds
 use Rattle.embed_base.specs.declared.outside.Place.TheVariants as places
@@ -8,7 +8,7 @@ use Rattle.host_parser.specs.Grammar.{plus, minus, Sum, product, added, factor, 
 use Rattle.embed_cmd.specs.declared.value.Value.TheVariants as values
 use Rattle.std.specs.Fmt.{decimal}
 use Rattle.embed_cmd.specs.Operators.{operate, text_of}
-use Rattle.embed_cmd.specs.Outcome.{done, outside, outcome_of, transcript_of, end_line}
+use Rattle.embed_cmd.specs.Outcome.{done, outside, past_budget, outcome_of, transcript_of, end_line}
 use Rattle.embed_cmd.specs.Words.{command_of}
 
 abbrev only : ℕ → ℕ → Sum
@@ -20,31 +20,31 @@ hello =
     printing (declaration nothing 0 (codes "a") 4 6 (only 6 8) 9) 11 16
     (listed (comma (single (product (factor (text (codes "a") 17)))) 20 (product (times (factor (name (codes "a") 22)) 24 (number 7 26))))) 27 28
 
-hello_prints : outcome_of hello ≡ record { lines = (codes "a " ++ decimal 42) ∷ []; end = done }
+hello_prints : outcome_of 100 hello ≡ record { lines = (codes "a " ++ decimal 42) ∷ []; end = done }
 hello_prints = refl
 
 -- an empty script
-empty_prints_nothing : transcript_of (outcome_of nothing) ≡ record { status = statuses.Done; text = [] }
+empty_prints_nothing : transcript_of (outcome_of 0 nothing) ≡ record { status = statuses.Done; text = [] }
 empty_prints_nothing = refl
 
 -- print();
-empty_line : transcript_of (outcome_of (printing nothing 0 5 none 6 7)) ≡ record { status = statuses.Done; text = 10 ∷ [] }
+empty_line : transcript_of (outcome_of 100 (printing nothing 0 5 none 6 7)) ≡ record { status = statuses.Done; text = 10 ∷ [] }
 empty_line = refl
 
 -- print(2 - 3 * 4 - (5 - 6));
-chain : outcome_of (printing nothing 0 5
+chain : outcome_of 100 (printing nothing 0 5
     (listed (single (added (added (only 2 6) minus 8 (times (factor (number 3 10)) 12 (number 4 14))) minus 16 (factor (parens 18 (added (only 5 19) minus 21 (factor (number 6 23))) 24))))) 25 26)
     ≡ record { lines = (45 ∷ decimal 9) ∷ []; end = done }
 chain = refl
 
 -- print(1); print(9007199254740991 + 1); print(2);
-refused_after_a_line : outcome_of (printing (printing (printing nothing 0 5 (listed (single (only 1 6))) 7 8) 10 15
+refused_after_a_line : outcome_of 100 (printing (printing (printing nothing 0 5 (listed (single (only 1 6))) 7 8) 10 15
     (listed (single (added (only 9007199254740991 16) plus 33 (factor (number 1 35))))) 36 37) 39 44 (listed (single (only 2 45))) 46 47)
     ≡ record { lines = decimal 1 ∷ []; end = outside (record { kind = kinds.Number; place = places.Script 33 }) }
 refused_after_a_line = refl
 
 -- print("a" - 1);
-text_as_a_number : outcome_of (printing nothing 0 5 (listed (single (added (product (factor (text (codes "a") 6))) minus 10 (factor (number 1 12))))) 13 14)
+text_as_a_number : outcome_of 100 (printing nothing 0 5 (listed (single (added (product (factor (text (codes "a") 6))) minus 10 (factor (number 1 12))))) 13 14)
     ≡ record { lines = []; end = outside (record { kind = kinds.TextNumber; place = places.Script 10 }) }
 text_as_a_number = refl
 
@@ -63,14 +63,33 @@ past_the_least = refl
 text_times : operate operators.Times (values.Text (codes "a")) (values.Number (pos 2)) ≡ Err kinds.TextNumber
 text_times = refl
 
-run_and_a_path : command_of (codes "run" ∷ codes "s.js" ∷ []) ≡ Some (codes "s.js")
+run_and_a_path : command_of (codes "run" ∷ codes "s.js" ∷ []) ≡ Some (record { script = codes "s.js"; modules = []; budget = 10000000 })
 run_and_a_path = refl
+
+options_anywhere : command_of (codes "--module" ∷ codes "m=a=b" ∷ codes "run" ∷ codes "--steps=007" ∷ codes "s.js" ∷ codes "--module=n=p" ∷ [])
+    ≡ Some (record { script = codes "s.js"; modules = (codes "m", codes "a=b") ∷ (codes "n", codes "p") ∷ []; budget = 7 })
+options_anywhere = refl
+
+one_name_twice : command_of (codes "run" ∷ codes "s.js" ∷ codes "--module=m=a" ∷ codes "--module=m=b" ∷ []) ≡ None
+one_name_twice = refl
+
+steps_twice : command_of (codes "run" ∷ codes "s.js" ∷ codes "--steps=1" ∷ codes "--steps=1" ∷ []) ≡ None
+steps_twice = refl
+
+-- print(1); print(2); with 3 units: the second line isn't printed
+past_its_budget : outcome_of 3 (printing (printing nothing 0 5 (listed (single (only 1 6))) 7 8) 10 15 (listed (single (only 2 16))) 17 18)
+    ≡ record { lines = decimal 1 ∷ []; end = past_budget 1 0 }
+past_its_budget = refl
+
+within_its_budget : outcome_of 4 (printing (printing nothing 0 5 (listed (single (only 1 6))) 7 8) 10 15 (listed (single (only 2 16))) 17 18)
+    ≡ record { lines = decimal 1 ∷ decimal 2 ∷ []; end = done }
+within_its_budget = refl
 
 no_words : command_of [] ≡ None
 no_words = refl
 
-an_option : command_of (codes "run" ∷ codes "--steps" ∷ []) ≡ None
-an_option = refl
+an_option_without_value : command_of (codes "run" ∷ codes "--steps" ∷ []) ≡ None
+an_option_without_value = refl
 
 an_empty_path : command_of (codes "run" ∷ [] ∷ []) ≡ None
 an_empty_path = refl

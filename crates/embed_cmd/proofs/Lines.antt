@@ -86,6 +86,7 @@ value_done nodes b all id ids v done more f is grown =
 pub refusal_of_all : (nodes : List Node) (b : Bindings) (all : List Sum) (id : NodeId) (ids : List NodeId) (done : List Value) (stop : Stop) (f : Front nodes b all id ids done)
     → Meets {A = Value} (Err stop) (sum_value b f.first) → MeetsAll (Err stop) (values_of b all)
 refusal_of_all nodes b all id ids done (stops.Outside o) f is = f.gives ∙ ap (λ r. after_values done (and_then r (λ w. and_then (values_of b f.rest) (λ vs. Ok (w ∷ vs))))) is
+refusal_of_all nodes b all id ids done (stops.Budget needs left) f is = is
 refusal_of_all nodes b all id ids done stops.NoMemory f is = tt
 
 none_left : (nodes : List Node) (b : Bindings) (all : List Sum) (done : List Value) (es : List Sum) → SumsShow nodes es [] → values_of b all ≡ after_values done (values_of b es) → values_of b all ≡ Ok done

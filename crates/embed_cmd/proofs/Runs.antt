@@ -1,11 +1,11 @@
 -- The statements of a script, one after the other.
-use Rattle.std.proofs.Common.{◌≡◌, ℕ, ◌+◌, ◌<◌, List, [], ◌∷◌, ◌++◌, Option, Some, None, Err, IsSomeAnd, slice_get, length, drop, get_or, fold, refl, sym, ap, ◌∙◌, subst, string_bytes}
+use Rattle.std.proofs.Common.{◌≡◌, ℕ, ◌+◌, ◌-◌, ◌<◌, ◌≤◌, List, [], ◌∷◌, ◌++◌, Option, Some, None, Result, Err, true, false, cond, nat_le, arith, IsSomeAnd, slice_get, length, drop, get_or, fold, refl, sym, ap, ◌∙◌, subst, string_bytes}
 use Rattle.std.proofs.lemmas.List.{drop_more}
 use Rattle.std.proofs.Math.Seq.{drop-length}
+use Rattle.std.proofs.lemmas.Bool.Decides.{nat_tests}
 use Rattle.std.specs.HashMap as hash
 use Rattle.std.specs.Map.{lookup}
 use Rattle.std.specs.Str.{bytes_eq}
-use Rattle.embed_base.specs.declared.outside.Outside.{Outside}
 use Rattle.host_parser.specs.declared.script.NodeId.{NodeId}
 use Rattle.host_parser.specs.declared.script.Form.{Form}
 use Rattle.host_parser.specs.declared.script.Form.TheVariants as forms
@@ -16,9 +16,9 @@ use Rattle.embed_cmd.specs.declared.run.Run.{Run}
 use Rattle.embed_cmd.specs.declared.stop.Stop.{Stop}
 use Rattle.embed_cmd.specs.declared.stop.Stop.TheVariants as stops
 use Rattle.embed_cmd.specs.Evaluation.{Bindings}
-use Rattle.embed_cmd.specs.Outcome.{Statement, declares, prints, listed_expressions, expressions_of, statements_of, Progress, going, ended, performed, run_of, outcome_of, outcome_of_progress, done}
+use Rattle.embed_cmd.specs.Outcome.{Statement, declares, prints, listed_expressions, expressions_of, statements_of, End, outside, past_budget, Progress, going, ended, charged, performed, run_of, outcome_of, outcome_of_progress, done}
 use Rattle.embed_cmd.specs.Tasks.{IsBoundAs}
-use Rattle.embed_cmd.specs.Runs.{SumsShow, StatementShows, StatementsShow, FormShows, HasPrinted, Stands, Performs}
+use Rattle.embed_cmd.specs.Runs.{SumsShow, StatementShows, StatementsShow, FormShows, HasPrinted, Stands, EndedBy, Charges, Performs}
 
 sums_append : (nodes : List Node) (es fs : List Sum) (ids js : List NodeId) → SumsShow nodes es ids → SumsShow nodes fs js → SumsShow nodes (es ++ fs) (ids ++ js)
 sums_append nodes [] fs [] js h k = k
@@ -59,64 +59,93 @@ statements_show (printing s p o a c e) nodes ids (front, x, is, (more, at)) =
     subst (λ xs. StatementsShow nodes (statements_of s ++ prints (expressions_of a) ∷ []) xs) (sym is)
     (statements_append nodes (statements_of s) (prints (expressions_of a) ∷ []) front (x ∷ []) (statements_show s nodes front more) (weaker (slice_get nodes x.0) _ _ (λ n h. print_shows nodes a n.form h.1) at, tt))
 
+enough : (needs left : ℕ) → needs ≤ left → nat_le needs left ≡ true
+enough needs left h = grind (arith, nat_tests)
+
+too_few : (needs left : ℕ) → left < needs → nat_le needs left ≡ false
+too_few needs left h = grind (arith, nat_tests)
+
+-- a charge that is taken
+pub paid : (needs left : ℕ) (lines : List (List ℕ)) (goes_on : ℕ → Progress) → needs ≤ left → charged needs left lines goes_on ≡ goes_on (left - needs)
+paid needs left lines goes_on h = ap (λ b. cond b (goes_on (left - needs)) (ended lines (past_budget needs left))) (enough needs left h)
+
+-- a charge above what is left
+pub unpaid : (needs left : ℕ) (lines : List (List ℕ)) (goes_on : ℕ → Progress) → left < needs → charged needs left lines goes_on ≡ ended lines (past_budget needs left)
+unpaid needs left lines goes_on h = ap (λ b. cond b (goes_on (left - needs)) (ended lines (past_budget needs left))) (too_few needs left h)
+
+-- a run that a charge ended
+pub unpaid_ends : (stop : Stop) (needs left after : ℕ) (lines : List (List ℕ)) (goes_on : ℕ → Progress) (run : Run) → Charges {A = Unit {0}} (Err stop) needs left after → HasPrinted lines run
+    → Performs {A = Unit {0}} (Err stop) (charged needs left lines goes_on) run
+unpaid_ends stop needs left after lines goes_on run h printed =
+    subst (λ s. Performs {A = Unit {0}} (Err s) (charged needs left lines goes_on) run) (sym h.1) (record { lines = lines; ends = unpaid needs left lines goes_on h.0; printed = printed })
+
+-- a charge that was taken, and what comes after it
+pub paid_goes_on : {A : Type 0} → (r : Result A Stop) (needs left after : ℕ) (lines : List (List ℕ)) (goes_on : ℕ → Progress) (run : Run) → needs ≤ left → after ≡ left - needs
+    → Performs r (goes_on after) run → Performs r (charged needs left lines goes_on) run
+paid_goes_on r needs left after lines goes_on run h is performs = subst (λ p. Performs r p run) (ap goes_on is ∙ sym (paid needs left lines goes_on h)) performs
+
 -- a run that goes on, the statements that are left, and what all of them give
-pub record RunLeft (nodes : List Node) (d : Script) (ids : List NodeId) (run : Run) : Type 0 where
+pub record RunLeft (nodes : List Node) (budget : ℕ) (d : Script) (ids : List NodeId) (run : Run) : Type 0 where
   pub bindings : Bindings
   pub lines : List (List ℕ)
   pub rest : List Statement
   pub is_bound : IsBoundAs bindings run.names
   pub printed : HasPrinted lines run
   pub shown : StatementsShow nodes rest ids
-  pub gives : run_of d ≡ fold performed (going bindings lines) rest
+  pub gives : run_of budget d ≡ fold performed (going bindings run.left lines) rest
 
 -- the first of the statements that are left
-pub record FirstLeft (nodes : List Node) (d : Script) (id : NodeId) (ids : List NodeId) (b : Bindings) (lines : List (List ℕ)) : Type 0 where
+pub record FirstLeft (nodes : List Node) (budget : ℕ) (d : Script) (id : NodeId) (ids : List NodeId) (b : Bindings) (left : ℕ) (lines : List (List ℕ)) : Type 0 where
   pub first : Statement
   pub rest : List Statement
   pub first_shown : StatementShows nodes first id
   pub rest_shown : StatementsShow nodes rest ids
-  pub gives : run_of d ≡ fold performed (performed (going b lines) first) rest
+  pub gives : run_of budget d ≡ fold performed (performed (going b left lines) first) rest
 
-first_of : (nodes : List Node) (d : Script) (id : NodeId) (ids : List NodeId) (b : Bindings) (lines : List (List ℕ)) (ss : List Statement)
-    → StatementsShow nodes ss (id ∷ ids) → run_of d ≡ fold performed (going b lines) ss → FirstLeft nodes d id ids b lines
-first_of nodes d id ids b lines [] shown gives = absurd shown
-first_of nodes d id ids b lines (s ∷ ss) shown gives = record { first = s; rest = ss; first_shown = shown.0; rest_shown = shown.1; gives = gives }
+first_of : (nodes : List Node) (budget : ℕ) (d : Script) (id : NodeId) (ids : List NodeId) (b : Bindings) (left : ℕ) (lines : List (List ℕ)) (ss : List Statement)
+    → StatementsShow nodes ss (id ∷ ids) → run_of budget d ≡ fold performed (going b left lines) ss → FirstLeft nodes budget d id ids b left lines
+first_of nodes budget d id ids b left lines [] shown gives = absurd shown
+first_of nodes budget d id ids b left lines (s ∷ ss) shown gives = record { first = s; rest = ss; first_shown = shown.0; rest_shown = shown.1; gives = gives }
 
-pub first_left : (nodes : List Node) (d : Script) (ids : List NodeId) (i : ℕ) (x : NodeId) (run : Run) → i < length ids → (h : RunLeft nodes d (drop i ids) run) → FirstLeft nodes d (get_or ids i x) (drop (i + 1) ids) h.bindings h.lines
-first_left nodes d ids i x run within h =
-    first_of nodes d (get_or ids i x) (drop (i + 1) ids) h.bindings h.lines h.rest (subst (λ xs. StatementsShow nodes h.rest xs) (drop_more ids i x within) h.shown) h.gives
+pub first_left : (nodes : List Node) (budget : ℕ) (d : Script) (ids : List NodeId) (i : ℕ) (x : NodeId) (run : Run) → i < length ids → (h : RunLeft nodes budget d (drop i ids) run) → FirstLeft nodes budget d (get_or ids i x) (drop (i + 1) ids) h.bindings run.left h.lines
+first_left nodes budget d ids i x run within h =
+    first_of nodes budget d (get_or ids i x) (drop (i + 1) ids) h.bindings run.left h.lines h.rest (subst (λ xs. StatementsShow nodes h.rest xs) (drop_more ids i x within) h.shown) h.gives
 
 -- a statement was performed, and the run goes on
-pub performed_left : (nodes : List Node) (d : Script) (ids : List NodeId) (run : Run) (p : Progress) (rest : List Statement) → Stands p run → StatementsShow nodes rest ids → run_of d ≡ fold performed p rest → RunLeft nodes d ids run
-performed_left nodes d ids run (going b lines) rest stands shown gives = record { bindings = b; lines = lines; rest = rest; is_bound = stands.0; printed = stands.1; shown = shown; gives = gives }
-performed_left nodes d ids run (ended lines o) rest stands shown gives = absurd stands
+pub performed_left : (nodes : List Node) (budget : ℕ) (d : Script) (ids : List NodeId) (run : Run) (p : Progress) (rest : List Statement) → Stands p run → StatementsShow nodes rest ids → run_of budget d ≡ fold performed p rest → RunLeft nodes budget d ids run
+performed_left nodes budget d ids run (going b left lines) rest stands shown gives = record { bindings = b; lines = lines; rest = rest; is_bound = stands.0; printed = stands.1; shown = shown; gives = gives ∙ ap (λ n. fold performed (going b n lines) rest) stands.2 }
+performed_left nodes budget d ids run (ended lines end) rest stands shown gives = absurd stands
 
-ended_stays : (lines : List (List ℕ)) (o : Outside) (rest : List Statement) → fold performed (ended lines o) rest ≡ ended lines o
-ended_stays lines o [] = refl
-ended_stays lines o (s ∷ ss) = ended_stays lines o ss
+ended_stays : (lines : List (List ℕ)) (end : End) (rest : List Statement) → fold performed (ended lines end) rest ≡ ended lines end
+ended_stays lines end [] = refl
+ended_stays lines end (s ∷ ss) = ended_stays lines end ss
+
+stays_ended : (budget : ℕ) (d : Script) (run : Run) (end : End) (p : Progress) (rest : List Statement) → EndedBy p end run → run_of budget d ≡ fold performed p rest → EndedBy (run_of budget d) end run
+stays_ended budget d run end p rest h gives = record { lines = h.lines; ends = gives ∙ ap (λ q. fold performed q rest) h.ends ∙ ended_stays h.lines end rest; printed = h.printed }
 
 -- what stops a run stops it for good
-pub stopped_left : (d : Script) (run : Run) (stop : Stop) (p : Progress) (rest : List Statement) → Performs {A = Unit {0}} (Err stop) p run → run_of d ≡ fold performed p rest → Performs {A = Unit {0}} (Err stop) (run_of d) run
-stopped_left d run (stops.Outside o) p rest h gives = record { lines = h.lines; ends = gives ∙ ap (λ q. fold performed q rest) h.ends ∙ ended_stays h.lines o rest; printed = h.printed }
-stopped_left d run stops.NoMemory p rest h gives = tt
+pub stopped_left : (budget : ℕ) (d : Script) (run : Run) (stop : Stop) (p : Progress) (rest : List Statement) → Performs {A = Unit {0}} (Err stop) p run → run_of budget d ≡ fold performed p rest → Performs {A = Unit {0}} (Err stop) (run_of budget d) run
+stopped_left budget d run (stops.Outside o) p rest h gives = stays_ended budget d run (outside o) p rest h gives
+stopped_left budget d run (stops.Budget needs left) p rest h gives = stays_ended budget d run (past_budget needs left) p rest h gives
+stopped_left budget d run stops.NoMemory p rest h gives = tt
 
-nothing_left : (nodes : List Node) (d : Script) (b : Bindings) (lines : List (List ℕ)) (ss : List Statement) → StatementsShow nodes ss [] → run_of d ≡ fold performed (going b lines) ss → outcome_of d ≡ record { lines = lines; end = done }
-nothing_left nodes d b lines [] shown gives = ap outcome_of_progress gives
-nothing_left nodes d b lines (s ∷ ss) shown gives = absurd shown
+nothing_left : (nodes : List Node) (budget : ℕ) (d : Script) (b : Bindings) (left : ℕ) (lines : List (List ℕ)) (ss : List Statement) → StatementsShow nodes ss [] → run_of budget d ≡ fold performed (going b left lines) ss → outcome_of budget d ≡ record { lines = lines; end = done }
+nothing_left nodes budget d b left lines [] shown gives = ap outcome_of_progress gives
+nothing_left nodes budget d b left lines (s ∷ ss) shown gives = absurd shown
 
 -- no statement is left
-pub done_outcome : (nodes : List Node) (d : Script) (ids : List NodeId) (i : ℕ) (run : Run) → i ≡ length ids → (h : RunLeft nodes d (drop i ids) run) → outcome_of d ≡ record { lines = h.lines; end = done }
-done_outcome nodes d ids i run at_end h =
-    nothing_left nodes d h.bindings h.lines h.rest (subst (λ xs. StatementsShow nodes h.rest xs) (ap (λ j. drop j ids) at_end ∙ drop-length ids) h.shown) h.gives
+pub done_outcome : (nodes : List Node) (budget : ℕ) (d : Script) (ids : List NodeId) (i : ℕ) (run : Run) → i ≡ length ids → (h : RunLeft nodes budget d (drop i ids) run) → outcome_of budget d ≡ record { lines = h.lines; end = done }
+done_outcome nodes budget d ids i run at_end h =
+    nothing_left nodes budget d h.bindings run.left h.lines h.rest (subst (λ xs. StatementsShow nodes h.rest xs) (ap (λ j. drop j ids) at_end ∙ drop-length ids) h.shown) h.gives
 
 -- the start of a run
-pub begun_left : (nodes : List Node) (d : Script) (ids : List NodeId) (run : Run) → ScriptShows d nodes ids → hash.IsEmpty run.names → string_bytes run.text ≡ [] → RunLeft nodes d ids run
-begun_left nodes d ids run shows empty no_text = record {
+pub begun_left : (nodes : List Node) (budget : ℕ) (d : Script) (ids : List NodeId) (run : Run) → ScriptShows d nodes ids → hash.IsEmpty run.names → string_bytes run.text ≡ [] → run.left ≡ budget → RunLeft nodes budget d ids run
+begun_left nodes budget d ids run shows empty no_text whole = record {
   bindings = λ name. None;
   lines = [];
   rest = statements_of d;
   is_bound = λ name. ap (λ es. lookup (λ k. bytes_eq name (string_bytes k)) es) empty;
   printed = no_text;
   shown = statements_show d nodes ids shows;
-  gives = refl;
+  gives = ap (λ n. fold performed (going (λ name. None) n []) (statements_of d)) (sym whole);
 }

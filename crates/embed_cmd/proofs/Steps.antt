@@ -151,6 +151,7 @@ goes_on nodes b answer other xs vs same h = subst (λ a. Continues nodes b a xs 
 pub stops_so : (stop : Stop) (nodes : List Node) (b : Bindings) (answer other : Answer) (xs : Vec Task Global) (vs : Vec Value Global)
     → answer ≡ other → Steps {A = Unit {0}} (Err stop) nodes b other xs vs → Meets {A = Value} (Err stop) answer
 stops_so (stops.Outside o) nodes b answer other xs vs same h = same ∙ h
+stops_so (stops.Budget needs left) nodes b answer other xs vs same h = h
 stops_so stops.NoMemory nodes b answer other xs vs same h = tt
 
 ended : (nodes : List Node) (b : Bindings) (answer : Answer) (vs : List Value) (n : ℕ) (todos : List Todo) → TodosShow nodes todos [] → Fits todos n → answer ≡ perform b todos vs → (n ≡ 1) × (answer ≡ last_value vs)

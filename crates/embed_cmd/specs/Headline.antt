@@ -1,11 +1,12 @@
 -- How the program's run answers the transcript of its command line.
-use Rattle.std.specs.Prelude.{◌≡◌, ℕ, List, ◌++◌, take, Option, None, IsSomeAnd}
+use Rattle.std.specs.Prelude.{◌≡◌, ℕ, List, ◌++◌, take, Option, Some, IsSomeAnd, MatchOption}
 use Rattle.std.specs.Option.{option_map}
 use Rattle.embed_base.specs.declared.status.Status.{Status}
 use Rattle.embed_base.specs.declared.status.Status.TheVariants as statuses
 use Rattle.embed_base.specs.Counts.{Rose, RoseByMore}
 use Rattle.embed_cmd.specs.declared.transcript.Transcript.{Transcript}
-use Rattle.embed_cmd.specs.Transcript.{Contents, IsTheTranscript, Asks, most_script_bytes}
+use Rattle.embed_cmd.specs.Words.{command_of}
+use Rattle.embed_cmd.specs.Transcript.{Contents, AskedFile, IsOfSome, files_of, first_long, IsTheTranscript, Asks}
 
 -- a fact that holds where the status tells the end of the definition's run: no fault and no want of memory came before
 abbrev pub OnEnd : Status → Type 0 → Type 0
@@ -68,6 +69,10 @@ pub record IsReadFault (words : List (List ℕ)) (before after : ℕ) (failed : 
   pub rose : Rose before after
   pub asked : IsSomeAnd failed (Asks words)
 
--- a content that isn't told was too long by the bytes that were taken
-abbrev pub IsUntoldTooLong : List (List ℕ) → Contents → ℕ → ℕ → Type 0
-IsUntoldTooLong words contents before after = (path : List ℕ) → Asks words path → contents path ≡ None → RoseByMore before after most_script_bytes
+-- a file that is asked for was too long: the first one, where its content is told, and else by the bytes that were taken
+abbrev pub IsTooLongOf : List AskedFile → Contents → ℕ → ℕ → Type 0
+IsTooLongOf files contents before after =
+    IsOfSome (λ file. MatchOption (contents file.path) (RoseByMore before after file.limit) (λ bytes. first_long contents files ≡ Some file.path)) files
+
+abbrev pub IsTooLong : List (List ℕ) → Contents → ℕ → ℕ → Type 0
+IsTooLong words contents before after = MatchOption (command_of words) ⊥ (λ asked. IsTooLongOf (files_of asked) contents before after)

@@ -6,6 +6,8 @@ pub mod Stops
 pub mod Tasks
 pub mod Runs
 pub mod Words
+pub mod Sorting
 pub mod Transcript
 pub mod Headline
+pub mod AskedFiles
 pub mod Reading

@@ -1,5 +1,5 @@
 -- How a run at work stands for the definition's run. No public clause cites this.
-use Rattle.std.specs.Prelude.{◌≡◌, ℕ, List, [], ◌∷◌, Result, Ok, Err, string_bytes}
+use Rattle.std.specs.Prelude.{◌≡◌, ℕ, ◌-◌, ◌<◌, ◌≤◌, List, [], ◌∷◌, Result, Ok, Err, string_bytes}
 use Rattle.std.specs.declared.alloc.Global.{Global}
 use Rattle.std.specs.declared.vec.Vec.{Vec}
 use Rattle.embed_base.specs.declared.outside.Outside.{Outside}
@@ -13,7 +13,7 @@ use Rattle.embed_cmd.specs.declared.value.Value.{Value}
 use Rattle.embed_cmd.specs.declared.stop.Stop.{Stop}
 use Rattle.embed_cmd.specs.declared.stop.Stop.TheVariants as stops
 use Rattle.embed_cmd.specs.declared.run.Run.{Run}
-use Rattle.embed_cmd.specs.Outcome.{Statement, declares, prints, Progress, going, ended, text_of_lines}
+use Rattle.embed_cmd.specs.Outcome.{Statement, declares, prints, End, outside, past_budget, Progress, going, ended, text_of_lines}
 use Rattle.embed_cmd.specs.Tasks.{IsBoundAs}
 
 -- these nodes show these expressions
@@ -41,7 +41,13 @@ StatementsShow nodes _ _ = ⊥
 abbrev pub MeetsAll : Result (Vec Value Global) Stop → Result (List Value) Outside → Type 0
 MeetsAll (Ok vs) answer = answer ≡ Ok vs.items
 MeetsAll (Err (stops.Outside o)) answer = answer ≡ Err o
+MeetsAll (Err (stops.Budget needs left)) answer = ⊥
 MeetsAll (Err stops.NoMemory) answer = Unit {0}
+
+-- a charge was taken from what was left, or is above it
+abbrev pub Charges : {A : Type 0} → Result A Stop → (needs before after : ℕ) → Type 0
+Charges (Ok _) needs before after = (needs ≤ before) × (after ≡ before - needs)
+Charges (Err stop) needs before after = (before < needs) × (stop ≡ stops.Budget needs before) × (after ≡ before)
 
 -- a run has printed these lines
 abbrev pub HasPrinted : List (List ℕ) → Run → Type 0
@@ -49,17 +55,18 @@ HasPrinted lines run = string_bytes run.text ≡ text_of_lines lines
 
 -- a run that goes on stands for the definition's
 abbrev pub Stands : Progress → Run → Type 0
-Stands (going b lines) run = IsBoundAs b run.names × HasPrinted lines run
-Stands (ended lines o) run = ⊥
+Stands (going b left lines) run = IsBoundAs b run.names × HasPrinted lines run × (left ≡ run.left)
+Stands (ended lines end) run = ⊥
 
--- a run that a refusal ended
-pub record EndedBy (progress : Progress) (o : Outside) (run : Run) : Type 0 where
+-- a run that ended so
+pub record EndedBy (progress : Progress) (end : End) (run : Run) : Type 0 where
   pub lines : List (List ℕ)
-  pub ends : progress ≡ ended lines o
+  pub ends : progress ≡ ended lines end
   pub printed : HasPrinted lines run
 
 -- how a statement's performance answers the definition
 abbrev pub Performs : {A : Type 0} → Result A Stop → Progress → Run → Type 0
 Performs (Ok _) progress run = Stands progress run
-Performs (Err (stops.Outside o)) progress run = EndedBy progress o run
+Performs (Err (stops.Outside o)) progress run = EndedBy progress (outside o) run
+Performs (Err (stops.Budget needs left)) progress run = EndedBy progress (past_budget needs left) run
 Performs (Err stops.NoMemory) progress run = Unit {0}

@@ -7,4 +7,5 @@ use Rattle.embed_cmd.specs.declared.stop.Stop.TheVariants as stops
 abbrev pub Meets : {A : Type 0} → Result A Stop → Result A Outside → Type 0
 Meets (Ok v) answer = answer ≡ Ok v
 Meets (Err (stops.Outside o)) answer = answer ≡ Err o
+Meets (Err (stops.Budget needs left)) answer = ⊥
 Meets (Err stops.NoMemory) answer = Unit {0}

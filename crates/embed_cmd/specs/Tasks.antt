@@ -119,4 +119,5 @@ pub record Continues (nodes : List Node) (b : Bindings) (answer : Answer) (xs : 
 abbrev pub Steps : {A : Type 0} → Result A Stop → List Node → Bindings → Answer → Vec Task Global → Vec Value Global → Type 0
 Steps (Ok _) nodes b answer todo done = Continues nodes b answer (top_first todo) (top_first done)
 Steps (Err (stops.Outside o)) nodes b answer todo done = answer ≡ Err o
+Steps (Err (stops.Budget needs left)) nodes b answer todo done = ⊥
 Steps (Err stops.NoMemory) nodes b answer todo done = Unit {0}

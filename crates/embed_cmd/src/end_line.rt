@@ -1,5 +1,5 @@
 ghost use Rattle.std.specs.Prelude.{◌≡◌, ◌++◌, OnOk, string_bytes};
-ghost use Rattle.embed_cmd.specs.Outcome.{end_line, outside, place_text};
+ghost use Rattle.embed_cmd.specs.Outcome.{end_line, outside, past_budget, place_text};
 
 use embed_base::{Outside, Place};
 use std::alloc::AllocError;
@@ -24,4 +24,11 @@ pub(crate) fn add_refusal(text: &mut String, refusal: Outside) -> Result<(), All
     add_place(text, refusal.place)?;
     text.push_str("\n")?;
     Ok(())
+}
+
+/// Adds the line that tells a charge above what was left of the budget.
+pub(crate) fn add_charge(text: &mut String, needs: u64, left: u64) -> Result<(), AllocError>
+    ensures { OnOk result (string_bytes text.new ≡ string_bytes text.old ++ end_line (past_budget needs left)) }
+{
+    writeln!(text, "budget: needs {needs}, left {left}")
 }

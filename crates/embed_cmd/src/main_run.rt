@@ -1,18 +1,18 @@
-ghost use Rattle.std.specs.Prelude.{◌⊎◌, ◌≡◌, ℕ, List, ◌++◌, ◌<◌, ◌≤◌, Some, None, Ok, Err, OnOk, OnErr, IfOk, IfErr, IfSome, map, string_bytes, take, length, IsSomeAnd, MatchOption};
+ghost use Rattle.std.specs.Prelude.{◌⊎◌, ◌≡◌, ℕ, List, ◌++◌, ◌<◌, ◌≤◌, Some, None, Ok, Err, OnOk, OnErr, IfOk, IfErr, IfSome, map, string_bytes, take, length, IsSome, MatchOption};
 ghost use Rattle.embed_base.specs.Counts.{Rose, RoseByMore};
 ghost use Rattle.embed_base.specs.Answers.{OnFailedWrite, UnlessFailedWrite};
 ghost use Rattle.embed_cmd.specs.Words.{command_of, texts_of};
 ghost use Rattle.host_parser.specs.Grammar as grammar;
-ghost use Rattle.embed_cmd.specs.Transcript.{IsScriptText, IsTheScriptTranscript, IsTheFileTranscript, IsTheTranscript, TellsAll, Asks, Contents, most_script_bytes, too_long, refused, usage};
+ghost use Rattle.embed_cmd.specs.Transcript.{IsScriptText, IsTheScriptTranscript, IsTheAskedTranscript, IsAsked, IsOfSome, files_of, IsTheTranscript, TellsAll, most_script_bytes, too_long, refused, usage};
 ghost use Rattle.embed_cmd.specs.Reading.{IsTree, IsScriptEnd, IsTranscriptEnd, OnRead, UnlessRead};
-ghost use Rattle.embed_cmd.specs.Headline.{with_more, OnEnd, OnReadFault, OnWriteFault, OnNoMemory, OnUsage, OnTooLongStatus, UnlessReadFault, UnlessWriteFault, WritesAll, WritesPrefix, IsReadFault, IsUntoldTooLong};
+ghost use Rattle.embed_cmd.specs.Headline.{with_more, OnEnd, OnReadFault, OnWriteFault, OnNoMemory, OnUsage, OnTooLongStatus, UnlessReadFault, UnlessWriteFault, WritesAll, WritesPrefix, IsReadFault, IsTooLong, IsTooLongOf};
 
+use crate::asked_files::{Unread, read_asked};
 use crate::run::run_script;
 use crate::transcript::Transcript;
-use crate::words::asked_script;
+use crate::words::{Asked, read_words};
 use crate::write::write_whole;
-use embed_base::limits::MOST_SCRIPT_BYTES;
-use embed_base::{FileError, Files, PlainString, Sink, SinkError, Status};
+use embed_base::{Files, PlainString, Sink, SinkError, Status};
 use host_lexer::{LexError, tokens};
 use host_parser::{ParseError, Script, parse};
 use std::alloc::{AllocError, Global};
@@ -92,37 +92,40 @@ fn read_script(alloc: Global, bytes: &[u8]) -> Result<Option<Script>, AllocError
     }
 }
 
-/// The transcript of a script's bytes.
-fn script_transcript(alloc: Global, bytes: &[u8]) -> Result<Transcript, AllocError>
+/// The transcript of a script's bytes, with a budget for its run.
+fn script_transcript(alloc: Global, bytes: &[u8], budget: u64) -> Result<Transcript, AllocError>
     requires { length bytes.now ≤ most_script_bytes }
-    ensures exact { IfOk result (λ t. IsTheScriptTranscript bytes.now t) }
+    ensures exact { IfOk result (λ t. IsTheScriptTranscript budget bytes.now t) }
     ensures end { IfOk result (λ t. IsScriptEnd t.status) }
 {
     match read_script(alloc, bytes)? {
         None => refused(alloc),
-        Some(script) => run_script(alloc, &script),
+        Some(script) => run_script(alloc, &script, budget),
     }
 }
 
-/// The transcript of a script's file.
-fn file_transcript<F: Files>(alloc: Global, files: &mut F, path: &str) -> Result<Transcript, Fault>
-    ensures exact { IfOk result (λ t. IfSome (F.content files.old path.now) (λ bytes. IsTheFileTranscript path.now bytes t)) }
+/// The transcript of what a command line asks for.
+fn asked_transcript<F: Files>(
+    alloc: Global,
+    files: &mut F,
+    asked: &Asked,
+) -> Result<Transcript, Fault>
+    ensures exact { IfOk result (λ t. ((path : List ℕ) → IsAsked asked.now path → IsSome (F.content files.old path)) → IsTheAskedTranscript asked.now (F.content files.old) t) }
     ensures end { IfOk result (λ t. IsScriptEnd t.status) }
-    ensures untold { IfOk result (λ t. OnTooLongStatus t.status (F.content files.old path.now ≡ None → RoseByMore (F.taken files.old) (F.taken files.new) most_script_bytes)) }
+    ensures too_long { IfOk result (λ t. OnTooLongStatus t.status (IsTooLongOf (files_of asked.now) (F.content files.old) (F.taken files.old) (F.taken files.new))) }
 
     ensures read_rose { OnRead result (Rose (F.faults files.old) (F.faults files.new)) }
-    ensures read_named { OnRead result (F.failed files.new ≡ Some path.now) }
+    ensures read_named { OnRead result (IsOfSome (λ file. F.failed files.new ≡ Some file.path) (files_of asked.now)) }
     ensures rose_read { UnlessRead result (¬ (F.faults files.old < F.faults files.new)) }
     ensures failed_stays { UnlessRead result (F.failed files.new ≡ F.failed files.old) }
 
     ensures contents_stay { (name : List ℕ) → F.content files.new name ≡ F.content files.old name }
 {
-    let mut bytes = Vec::new(alloc);
-    match files.read_whole(alloc, path, MOST_SCRIPT_BYTES, &mut bytes) {
-        Ok(()) => Ok(script_transcript(alloc, bytes.as_slice())?),
-        Err(FileError::TooLong) => Ok(too_long(alloc, path)?),
-        Err(FileError::Failed) => Err(Fault::Read),
-        Err(FileError::NoMemory) => Err(Fault::NoMemory),
+    match read_asked(alloc, files, asked) {
+        Ok(read) => Ok(script_transcript(alloc, read.script.as_slice(), asked.budget)?),
+        Err(Unread::TooLong(path)) => Ok(too_long(alloc, path.as_str())?),
+        Err(Unread::Failed) => Err(Fault::Read),
+        Err(Unread::NoMemory) => Err(Fault::NoMemory),
     }
 }
 
@@ -135,7 +138,7 @@ fn command_transcript<F: Files>(
     ensures exact { IfOk result (λ t. TellsAll (texts_of words.now) (F.content files.old) → IsTheTranscript (texts_of words.now) (F.content files.old) t) }
     ensures end { IfOk result (λ t. IsTranscriptEnd t.status) }
     ensures usage_only { IfOk result (λ t. OnUsage t.status (command_of (texts_of words.now) ≡ None)) }
-    ensures untold { IfOk result (λ t. OnTooLongStatus t.status (IsUntoldTooLong (texts_of words.now) (F.content files.old) (F.taken files.old) (F.taken files.new))) }
+    ensures too_long { IfOk result (λ t. OnTooLongStatus t.status (IsTooLong (texts_of words.now) (F.content files.old) (F.taken files.old) (F.taken files.new))) }
 
     ensures read { OnRead result (IsReadFault (texts_of words.now) (F.faults files.old) (F.faults files.new) (F.failed files.new)) }
     ensures rose_read { UnlessRead result (¬ (F.faults files.old < F.faults files.new)) }
@@ -144,9 +147,9 @@ fn command_transcript<F: Files>(
     ensures contents_stay { (name : List ℕ) → F.content files.new name ≡ F.content files.old name }
     ensures untouched { command_of (texts_of words.now) ≡ None → files.new ≡ files.old }
 {
-    match asked_script(words) {
+    match read_words(alloc, words)? {
         None => Ok(usage(alloc)?),
-        Some(path) => file_transcript(alloc, files, path),
+        Some(asked) => asked_transcript(alloc, files, &asked),
     }
 }
 
@@ -168,8 +171,8 @@ fn deliver<O: Sink>(alloc: Global, out: &mut O, transcript: &Transcript) -> Stat
     }
 }
 
-/// All that the program does: reads the words, reads the script's file, runs the script, and writes the transcript to
-/// the output. The status is that of the transcript, or tells which fault or want of memory ended the run before.
+/// All that the program does: reads the words, reads the files that they ask for, runs the script, and writes the
+/// transcript to the output. The status is that of the transcript, or tells which fault or want of memory ended the run before.
 pub fn run_main<F: Files, O: Sink>(
     alloc: Global,
     words: &[String],
@@ -198,8 +201,9 @@ pub fn run_main<F: Files, O: Sink>(
     ensures usage_only { OnUsage result (command_of (texts_of words.now) ≡ None) }
     ensures usage_reads_nothing { command_of (texts_of words.now) ≡ None → files.new ≡ files.old }
 
-    // A content that isn't told is too long only where more was taken than its limit.
-    ensures untold_too_long { OnTooLongStatus result (IsUntoldTooLong (texts_of words.now) (F.content files.old) (F.taken files.old) (F.taken files.new)) }
+    // A file that was asked for is too long: the first one, or, where its content isn't told, one of which more was taken
+    // than its limit.
+    ensures too_long_cause { OnTooLongStatus result (IsTooLong (texts_of words.now) (F.content files.old) (F.taken files.old) (F.taken files.new)) }
 
     // What the files tell stays.
     ensures contents_stay { (name : List ℕ) → F.content files.new name ≡ F.content files.old name }

@@ -8,6 +8,8 @@ use std::alloc::{AllocError, AllocFailed};
 #[derive(Debug, Drop)]
 pub(crate) enum Stop {
     Outside(Outside),
+    /// A charge above what is left of the budget.
+    Budget { needs: u64, left: u64 },
     NoMemory,
 }
 

@@ -6,4 +6,4 @@ use Rattle.embed_cmd.proofs.Runs.{RunLeft}
 use Rattle.embed_cmd.proofs.run.perform_all.Given as goal
 
 abbrev pub invariant-loop-id : goal.invariant-loop-id
-invariant-loop-id l = (d : Script) → ScriptShows d l.nodes l.ids → RunLeft l.nodes d (drop l.id-index l.ids) l.run
+invariant-loop-id l = (d : Script) → ScriptShows d l.nodes l.ids → RunLeft l.nodes l.fn.budget d (drop l.id-index l.ids) l.run

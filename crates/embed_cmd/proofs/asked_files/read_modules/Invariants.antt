@@ -1,0 +1,13 @@
+-- No module so far was too long, and no read failed.
+use Rattle.std.proofs.Common.{◌≡◌, ℕ, List, ◌≤◌, drop}
+use Rattle.embed_cmd.specs.Transcript.{first_long, module_files}
+use Rattle.embed_cmd.proofs.asked_files.read_modules.Given as goal
+
+abbrev pub invariant-loop-module : goal.invariant-loop-module
+invariant-loop-module g l = record {
+  contents : (name : List ℕ) → g.F.Files.content l.files name ≡ g.F.Files.content l.initial.files name;
+  faults : g.F.Files.faults l.files ≡ g.F.Files.faults l.initial.files;
+  failed : g.F.Files.failed l.files ≡ g.F.Files.failed l.initial.files;
+  taken : g.F.Files.taken l.initial.files ≤ g.F.Files.taken l.files;
+  left : first_long (g.F.Files.content l.initial.files) (module_files l.modules) ≡ first_long (g.F.Files.content l.initial.files) (module_files (drop l.module-index l.modules));
+}

@@ -1,0 +1,116 @@
+use super::read_words;
+use embed_base::limits::MOST_MODULES;
+use std::alloc::Global;
+use std::test::Fail;
+
+// The words that stand between bars.
+fn split(alloc: Global, line: &str) -> Result<Vec<String>, Fail> {
+    let mut words = Vec::new(alloc);
+    for word in line.split('|') {
+        words.push(String::from_str(alloc, word)?)?;
+    }
+    Ok(words)
+}
+
+// What words ask for, as one text: the script, the budget, and each module's name and path.
+fn told(alloc: Global, words: &[String]) -> Result<String, Fail> {
+    let Some(asked) = read_words(alloc, words)? else {
+        return Ok(String::from_str(alloc, "usage")?);
+    };
+    let mut text = format!(in alloc; "{} {}", asked.script.as_str(), asked.budget)?;
+    for module in asked.modules.as_slice() {
+        let shown = format!(in alloc; " {}:{}", module.0.as_str(), module.1.as_str())?;
+        text.push_str(shown.as_str())?;
+    }
+    Ok(text)
+}
+
+#[test]
+fn words_are_read_by_the_rules(rt: HostRuntime) -> Result<(), Fail> {
+    let cases = [
+        ("run|s.js", "s.js 10000000"),
+        ("run|s.js|--steps|5", "s.js 5"),
+        ("--steps|5|run|s.js", "s.js 5"),
+        ("run|--steps|5|s.js", "s.js 5"),
+        ("run|s.js|--steps=5", "s.js 5"),
+        ("--steps=0|run|s.js", "s.js 0"),
+        ("run|s.js|--steps|1000000000000", "s.js 1000000000000"),
+        ("run|s.js|--steps|1000000000001", "usage"),
+        ("run|s.js|--steps=9999999999999", "usage"),
+        ("run|s.js|--steps=0000000000007", "s.js 7"),
+        ("run|s.js|--steps=00000000000007", "usage"),
+        ("run|s.js|--steps=", "usage"),
+        ("run|s.js|--steps|", "usage"),
+        ("run|s.js|--steps=+5", "usage"),
+        ("run|s.js|--steps=-1", "usage"),
+        ("run|s.js|--steps|-1", "usage"),
+        ("run|s.js|--steps| 5", "usage"),
+        ("run|s.js|--steps=5x", "usage"),
+        ("run|s.js|--steps=5=6", "usage"),
+        ("run|s.js|--steps", "usage"),
+        ("run|--steps", "usage"),
+        ("run|s.js|--steps|5|--steps|6", "usage"),
+        ("run|s.js|--steps=5|--steps=5", "usage"),
+        ("run|s.js|--module|a=b", "s.js 10000000 a:b"),
+        ("run|s.js|--module=a=b", "s.js 10000000 a:b"),
+        (
+            "--module|a=b|run|--module=c=d|s.js|--steps|9",
+            "s.js 9 a:b c:d",
+        ),
+        ("run|s.js|--module=a=b=c", "s.js 10000000 a:b=c"),
+        ("run|s.js|--module=a=", "usage"),
+        ("run|s.js|--module==b", "usage"),
+        ("run|s.js|--module=a", "usage"),
+        ("run|s.js|--module=", "usage"),
+        ("run|s.js|--module|", "usage"),
+        ("run|s.js|--module", "usage"),
+        ("run|s.js|--module|-x=p", "usage"),
+        ("run|s.js|--module=-x=p", "s.js 10000000 -x:p"),
+        ("run|s.js|--module|--steps|5", "usage"),
+        ("run|s.js|--module=a=b|--module=a=c", "usage"),
+        (
+            "run|s.js|--module=a=b|--module=A=b",
+            "s.js 10000000 a:b A:b",
+        ),
+        ("run|s.js|--help", "usage"),
+        ("run|s.js|--version", "usage"),
+        ("run|s.js|-h", "usage"),
+        ("run|s.js|-", "usage"),
+        ("run|s.js|--", "usage"),
+        ("run|-s.js", "usage"),
+        ("run|", "usage"),
+        ("run", "usage"),
+        ("", "usage"),
+        ("s.js", "usage"),
+        ("s.js|run", "usage"),
+        ("run|s.js|t.js", "usage"),
+        ("Run|s.js", "usage"),
+        ("run|run", "run 10000000"),
+        ("run|s=t.js", "s=t.js 10000000"),
+        ("run|--steps=5", "usage"),
+        ("--step=5|run|s.js", "usage"),
+        ("--steps5|run|s.js", "usage"),
+        ("run|s.js|--Module=a=b", "usage"),
+    ];
+    for (line, expected) in cases {
+        let words = split(rt.alloc(), line)?;
+        let got = told(rt.alloc(), words.as_slice())?;
+        assert_eq!(rt; got.as_str(), expected, "at {line}");
+    }
+    let none = Vec::new(rt.alloc());
+    let got = told(rt.alloc(), none.as_slice())?;
+    assert_eq!(rt; got.as_str(), "usage");
+    Ok(())
+}
+
+#[test]
+fn modules_are_64_at_most(rt: HostRuntime) -> Result<(), Fail> {
+    let mut words = split(rt.alloc(), "run|s.js")?;
+    for number in 0..MOST_MODULES {
+        words.push(format!(in rt.alloc(); "--module=m{number}=p")?)?;
+    }
+    assert!(rt; read_words(rt.alloc(), words.as_slice())?.is_some());
+    words.push(String::from_str(rt.alloc(), "--module=n=p")?)?;
+    assert!(rt; read_words(rt.alloc(), words.as_slice())?.is_none());
+    Ok(())
+}
