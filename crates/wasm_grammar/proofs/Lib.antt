@@ -5,3 +5,5 @@ pub mod Texts
 pub mod Sizes
 pub mod Exact
 pub mod Threads
+pub mod Productions
+pub mod Loops

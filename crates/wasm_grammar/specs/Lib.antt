@@ -4,3 +4,6 @@ pub mod Binary
 pub mod Answers
 pub mod Reading
 pub mod Threads
+pub mod Leaves
+pub mod Types
+pub mod Entries
