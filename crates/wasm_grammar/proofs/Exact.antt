@@ -1,5 +1,5 @@
 -- A reader that gives what a reading function tells answers exactly what is spelled.
-use Rattle.std.proofs.Common.{◌≡◌, ℕ, List, Option, Some, None, Result, Ok, Err, refl, sym, subst, ◌∙◌}
+use Rattle.std.proofs.Common.{◌≡◌, ℕ, List, Option, Some, Result, Ok, Err, sym, ◌∙◌}
 use Rattle.std.specs.Prelude.{IfOk}
 use Rattle.wasm_grammar.specs.Forms.{Form, Front}
 use Rattle.wasm_grammar.specs.Answers.{Gives, Answers}

@@ -1,5 +1,5 @@
 -- What a reader of numbers takes is spelled so, and what is spelled so it takes.
-use Rattle.std.proofs.Common.{◌≡◌, ℕ, zero, suc, ◌+◌, ◌-◌, ◌*◌, ◌^◌, ◌<◌, ◌≤◌, Bool, true, false, cond, ltb, eqb, List, [], ◌∷◌, ◌++◌, length, Option, Some, None, refl, sym, ap, subst, ◌∙◌, arith, inl, inr, ◌⊎◌}
+use Rattle.std.proofs.Common.{◌≡◌, ℕ, suc, ◌+◌, ◌-◌, ◌*◌, ◌^◌, ◌<◌, ◌≤◌, false, cond, ltb, eqb, List, [], ◌∷◌, ◌++◌, length, Option, Some, None, refl, sym, ap, subst, ◌∙◌, arith, inl, inr}
 use Rattle.std.proofs.Math.Nat.{pow-succ'}
 use Rattle.std.proofs.lemmas.Bool.{ltb-false, ltb-true, le-ltb, lt-ltb, eqb-false, ne_eqb}
 use Rattle.wasm_grammar.specs.Forms.{Form, Front}
@@ -112,10 +112,10 @@ pub u32_reads : ReadsPlain IsU32 u32_at
 unfolding u32_at
 u32_reads = record {
   takes = λ after bytes x e.
-    let s = bind_some (leb_at 0 1 bytes 5) (λ x. cond (ltb x.0.0 (2 ^ 32)) (Some (x.0.0, x.1)) None) x e in
-    let g = guard_is (ltb s.0.0.0 (2 ^ 32)) (Some (s.0.0.0, s.0.1)) x s.2 in
-    let t = groups_take bytes 5 s.0 s.1 in
-    subst (λ (y : ℕ × List ℕ). Front IsU32 after bytes y.0 y.1) (some_is _ _ g.1)
+      let s = bind_some (leb_at 0 1 bytes 5) (λ x. cond (ltb x.0.0 (2 ^ 32)) (Some (x.0.0, x.1)) None) x e in
+      let g = guard_is (ltb s.0.0.0 (2 ^ 32)) (Some (s.0.0.0, s.0.1)) x s.2 in
+      let t = groups_take bytes 5 s.0 s.1 in
+      subst (λ (y : ℕ × List ℕ). Front IsU32 after bytes y.0 y.1) (some_is _ _ g.1)
       (record { front = t.front; parts = t.parts; is_form = record { groups = t.groups; short = t.short; fits = ltb-true _ _ g.0 } });
   again = λ after front rest n p. rw (groups_again front 5 n rest p.groups p.short, lt-ltb n (2 ^ 32) p.fits) refl;
 }
@@ -142,10 +142,10 @@ pub signed_reads : (most half : ℕ) → ReadsPlain (IsSigned most half) (signed
 unfolding signed_at
 signed_reads most half = record {
   takes = λ after bytes x e.
-    let s = bind_some (leb_at 0 1 bytes most) (λ x. word_of half x.0.1 x.0.0 >>= λ word. Some (word, x.1)) x e in
-    let g = bind_some (word_of half s.0.0.1 s.0.0.0) (λ word. Some (word, s.0.1)) x s.2 in
-    let t = groups_take bytes most s.0 s.1 in
-    subst (λ (y : ℕ × List ℕ). Front (IsSigned most half) after bytes y.0 y.1) (some_is _ _ g.2)
+      let s = bind_some (leb_at 0 1 bytes most) (λ x. word_of half x.0.1 x.0.0 >>= λ word. Some (word, x.1)) x e in
+      let g = bind_some (word_of half s.0.0.1 s.0.0.0) (λ word. Some (word, s.0.1)) x s.2 in
+      let t = groups_take bytes most s.0 s.1 in
+      subst (λ (y : ℕ × List ℕ). Front (IsSigned most half) after bytes y.0 y.1) (some_is _ _ g.2)
       (record { front = t.front; parts = t.parts; is_form = record { number = s.0.0.0; groups = t.groups; short = t.short; is_word = subst (λ (top : ℕ). IsWord half top s.0.0.0 g.0) t.top_is (word_is half s.0.0.1 s.0.0.0 g.0 g.1) } });
   again = λ after front rest word p. rw (groups_again front most p.number rest p.groups p.short, word_again half (128 ^ length front) p.number word p.is_word) refl;
 }
@@ -154,11 +154,11 @@ pub s33_reads : ReadsPlain IsS33 s33_at
 unfolding s33_at
 s33_reads = record {
   takes = λ after bytes x e.
-    let s = bind_some (leb_at 0 1 bytes 5) (λ x. cond (ltb (x.0.0 + x.0.0) x.0.1) (cond (ltb x.0.0 (2 ^ 32)) (Some (x.0.0, x.1)) None) None) x e in
-    let g = guard_is (ltb (s.0.0.0 + s.0.0.0) s.0.0.1) (cond (ltb s.0.0.0 (2 ^ 32)) (Some (s.0.0.0, s.0.1)) None) x s.2 in
-    let f = guard_is (ltb s.0.0.0 (2 ^ 32)) (Some (s.0.0.0, s.0.1)) x g.1 in
-    let t = groups_take bytes 5 s.0 s.1 in
-    subst (λ (y : ℕ × List ℕ). Front IsS33 after bytes y.0 y.1) (some_is _ _ f.1)
+      let s = bind_some (leb_at 0 1 bytes 5) (λ x. cond (ltb (x.0.0 + x.0.0) x.0.1) (cond (ltb x.0.0 (2 ^ 32)) (Some (x.0.0, x.1)) None) None) x e in
+      let g = guard_is (ltb (s.0.0.0 + s.0.0.0) s.0.0.1) (cond (ltb s.0.0.0 (2 ^ 32)) (Some (s.0.0.0, s.0.1)) None) x s.2 in
+      let f = guard_is (ltb s.0.0.0 (2 ^ 32)) (Some (s.0.0.0, s.0.1)) x g.1 in
+      let t = groups_take bytes 5 s.0 s.1 in
+      subst (λ (y : ℕ × List ℕ). Front IsS33 after bytes y.0 y.1) (some_is _ _ f.1)
       (record { front = t.front; parts = t.parts; is_form = record { groups = t.groups; short = t.short; not_negative = subst (λ (top : ℕ). s.0.0.0 + s.0.0.0 < top) t.top_is (ltb-true _ _ g.0); fits = ltb-true _ _ f.0 } });
   again = λ after front rest n p. rw (groups_again front 5 n rest p.groups p.short, lt-ltb (n + n) (128 ^ length front) p.not_negative, lt-ltb n (2 ^ 32) p.fits) refl;
 }

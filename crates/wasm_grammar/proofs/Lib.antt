@@ -4,6 +4,7 @@ pub mod Groups
 pub mod Texts
 pub mod Sizes
 pub mod Exact
+pub mod Customs
 pub mod Threads
 pub mod Productions
 pub mod Loops

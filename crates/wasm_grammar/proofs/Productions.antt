@@ -1,5 +1,5 @@
 -- The laws of the productions: each is put together from those of its parts.
-use Rattle.std.proofs.Common.{◌≡◌, ℕ, ◌+◌, eqb, List, [], ◌++◌, length, Some, true, false, refl, ap, subst, ◌∙◌}
+use Rattle.std.proofs.Common.{ℕ, ◌+◌, eqb, List, [], length, true, false, refl, subst}
 use Rattle.wasm_syntax.specs.declared.types.ValType.TheVariants as v
 use Rattle.wasm_syntax.specs.declared.module.ImportDesc.TheVariants as i
 use Rattle.wasm_syntax.specs.declared.module.ExportDesc.TheVariants as x
@@ -11,9 +11,9 @@ use Rattle.wasm_grammar.specs.Forms.{Form}
 use Rattle.wasm_grammar.specs.Leb128.{IsU32}
 use Rattle.wasm_grammar.specs.Binary.{IsName}
 use Rattle.wasm_grammar.specs.Reading.{u32_at, name_at}
-use Rattle.wasm_grammar.specs.Threads.{Making, make_same, make_of, Reader, same_in}
+use Rattle.wasm_grammar.specs.Threads.{Making, make_same, Reader, same_in}
 use Rattle.wasm_grammar.specs.Leaves.{IsLeaf, leaf_before, leaf_in}
-use Rattle.wasm_grammar.specs.Types.{Tagged, tagged, TypeTree, known, strange, make_type, IsValType, val_in, IsRefType, ref_in, IsFuncType, func_type_of, make_func_type, func_type_in, limit_from, limit_between, IsLimits, limits_in, table_type_of, IsTableType, table_type_in, IsMutability, mutability_in, IsGlobalType, global_type_of, make_global_type, global_type_in}
+use Rattle.wasm_grammar.specs.Types.{Tagged, tagged, known, strange, make_type, IsValType, val_in, IsRefType, ref_in, IsFuncType, func_type_of, make_func_type, func_type_in, limit_from, limit_between, IsLimits, limits_in, table_type_of, IsTableType, table_type_in, IsMutability, mutability_in, IsGlobalType, global_type_of, make_global_type, global_type_in}
 use Rattle.wasm_grammar.specs.Entries.{func, table, mem, global, make_import_desc, IsImportDesc, import_desc_in, IsImport, import_of, make_import, import_in, IsExportDesc, export_desc_in, export_of, IsExport, export_in}
 use Rattle.wasm_grammar.proofs.Steps.{some_is}
 use Rattle.wasm_grammar.proofs.Integers.{u32_reads}

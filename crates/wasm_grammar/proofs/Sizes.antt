@@ -1,13 +1,13 @@
 -- What a reader of parts and names takes is spelled so, and what is spelled so it takes.
-use Rattle.std.proofs.Common.{◌≡◌, ℕ, ◌+◌, ◌≤◌, Bool, true, false, cond, ltb, List, ◌++◌, length, take, drop, Option, Some, None, refl, sym, ap, subst, ◌∙◌, append_assoc, length-append, arith}
+use Rattle.std.proofs.Common.{◌≡◌, ℕ, ◌+◌, ◌≤◌, false, cond, ltb, List, ◌++◌, length, take, drop, Some, None, refl, sym, ap, subst, ◌∙◌, append_assoc, length-append, arith}
 use Rattle.std.proofs.lemmas.Bool.{ltb-false, le-ltb}
 use Rattle.std.proofs.lemmas.List.{take_at, drop_at, take-append-drop, length-take}
 use Rattle.std.specs.Str.{is_utf8}
 use Rattle.std.proofs.lemmas.Str.{IsUtf8-from_is_utf8, is_utf8-from_IsUtf8}
-use Rattle.wasm_grammar.specs.Forms.{Form, Any, Front}
+use Rattle.wasm_grammar.specs.Forms.{Front}
 use Rattle.wasm_grammar.specs.Leb128.{IsU32}
-use Rattle.wasm_grammar.specs.Binary.{IsSized, IsBytes, IsName}
-use Rattle.wasm_grammar.specs.Reading.{◌>>=◌, u32_at, part_at, name_at}
+use Rattle.wasm_grammar.specs.Binary.{IsBytes, IsName}
+use Rattle.wasm_grammar.specs.Reading.{u32_at, part_at, name_at}
 use Rattle.wasm_grammar.proofs.Steps.{bind_some, guard_not, guard_is, some_is}
 use Rattle.wasm_grammar.proofs.Integers.{ReadsPlain, u32_reads}
 
@@ -48,22 +48,22 @@ part_again k front part rest size =
 pub bytes_read : ReadsPlain IsBytes part_at
 bytes_read = record {
   takes = λ after bytes x e.
-    let t = part_takes (after + length x.1 + length x.0) bytes x e in
-    record { front = t.front ++ x.0; parts = t.parts; is_form = record { front = t.front; back = x.0; parts = refl; size = t.size; body = refl } };
+      let t = part_takes (after + length x.1 + length x.0) bytes x e in
+      record { front = t.front ++ x.0; parts = t.parts; is_form = record { front = t.front; back = x.0; parts = refl; size = t.size; body = refl } };
   again = λ after front rest x p.
-    let whole_is : front ++ rest ≡ p.front ++ (p.back ++ rest) = ap (λ (w : List ℕ). w ++ rest) p.parts ∙ append_assoc p.front p.back rest in
-    let back_is : p.back ≡ x = sym p.body in
-    rw (whole_is, part_again _ p.front p.back rest p.size, back_is) refl;
+      let whole_is : front ++ rest ≡ p.front ++ (p.back ++ rest) = ap (λ (w : List ℕ). w ++ rest) p.parts ∙ append_assoc p.front p.back rest in
+      let back_is : p.back ≡ x = sym p.body in
+      rw (whole_is, part_again _ p.front p.back rest p.size, back_is) refl;
 }
 
 pub name_reads : ReadsPlain IsName name_at
 unfolding name_at
 name_reads = record {
   takes = λ after bytes x e.
-    let a = bind_some (part_at bytes) (λ x. cond (is_utf8 x.0) (Some x) None) x e in
-    let g = guard_is (is_utf8 a.0.0) (Some a.0) x a.2 in
-    let t = bytes_read.takes after bytes a.0 a.1 in
-    subst (λ (y : List ℕ × List ℕ). Front IsName after bytes y.0 y.1) (some_is _ _ g.1)
+      let a = bind_some (part_at bytes) (λ x. cond (is_utf8 x.0) (Some x) None) x e in
+      let g = guard_is (is_utf8 a.0.0) (Some a.0) x a.2 in
+      let t = bytes_read.takes after bytes a.0 a.1 in
+      subst (λ (y : List ℕ × List ℕ). Front IsName after bytes y.0 y.1) (some_is _ _ g.1)
       (record { front = t.front; parts = t.parts; is_form = record { is_bytes = t.is_form; is_text = IsUtf8-from_is_utf8 a.0.0 g.0 } });
   again = λ after front rest x p. rw (bytes_read.again after front rest x p.is_bytes, is_utf8-from_IsUtf8 x p.is_text) refl;
 }

@@ -1,7 +1,7 @@
 -- Vectors, parts of a told size, and names (WebAssembly Core 2.0, sections 5.1.3, 5.2.4 and 5.5.2).
 use Rattle.std.specs.Prelude.{◌≡◌, ℕ, ◌+◌, List, ◌++◌, length}
 use Rattle.std.specs.Str.{IsUtf8}
-use Rattle.wasm_grammar.specs.Forms.{Form, Any, Items}
+use Rattle.wasm_grammar.specs.Forms.{Form, Any, Both, Items}
 use Rattle.wasm_grammar.specs.Leb128.{IsU32}
 
 -- a count, and so many items
@@ -28,3 +28,7 @@ IsBytes = IsSized Any
 pub record IsName (after : ℕ) (bytes : List ℕ) (name : List ℕ) : Type 0 where
   pub is_bytes : IsBytes after bytes name
   pub is_text : IsUtf8 name
+
+-- what a custom section holds (5.5.3): a name, and any bytes
+abbrev pub IsCustom : Form (List ℕ × List ℕ)
+IsCustom = IsSized (Both IsName Any)

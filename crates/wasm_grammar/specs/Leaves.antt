@@ -1,6 +1,6 @@
 -- Foreign leaves: types and instructions of the standard that the profile leaves out. They are spelled in a module like all others,
 -- and of them only the first is told.
-use Rattle.std.specs.Prelude.{◌≡◌, ℕ, ◌+◌, List, [], length, Option, Some, None}
+use Rattle.std.specs.Prelude.{◌≡◌, ℕ, ◌+◌, [], length, Option, Some, None}
 use Rattle.wasm_grammar.specs.Forms.{Form}
 use Rattle.wasm_grammar.specs.Threads.{Reader}
 use Rattle.wasm_grammar.specs.declared.built.Foreign.{Foreign}

@@ -1,5 +1,5 @@
 -- Reading from left to right, as functions on lists of bytes.
-use Rattle.std.specs.Prelude.{ℕ, zero, suc, ◌+◌, ◌-◌, ◌*◌, ◌^◌, List, [], ◌∷◌, length, take, drop, Option, Some, None, Bool, nat_lt, ◌==◌, if◌then◌else◌}
+use Rattle.std.specs.Prelude.{ℕ, ◌+◌, ◌-◌, ◌*◌, ◌^◌, List, [], ◌∷◌, length, take, drop, Option, Some, None, nat_lt, ◌==◌, if◌then◌else◌}
 use Rattle.std.specs.Str.{is_utf8}
 
 infixl 10 ◌>>=◌
@@ -43,3 +43,7 @@ part_at bytes = u32_at bytes >>= λ n. if nat_lt (length n.1) n.0 then None else
 
 unfoldable pub name_at : List ℕ → Option (List ℕ × List ℕ)
 name_at bytes = part_at bytes >>= λ x. if is_utf8 x.0 then Some x else None
+
+-- what stands behind a sized part that begins with a name
+abbrev pub custom_at : List ℕ → Option (List ℕ)
+custom_at bytes = part_at bytes >>= λ x. name_at x.0 >>= λ name. Some x.1

@@ -1,5 +1,5 @@
 -- Types (WebAssembly Core 2.0, section 5.3).
-use Rattle.std.specs.Prelude.{ℕ, List, Option, Some, None, Bool, true, false, ◌==◌, ◌||◌}
+use Rattle.std.specs.Prelude.{ℕ, List, Some, None, Bool, true, false, ◌==◌}
 use Rattle.wasm_syntax.specs.declared.types.ValType.{ValType}
 use Rattle.wasm_syntax.specs.declared.types.ValType.TheVariants as v
 use Rattle.wasm_syntax.specs.declared.types.FuncType.{FuncType}

@@ -13,6 +13,9 @@ mod vectors;
 pub use built::{Built, Foreign, Leaf};
 pub use entries::{export_of, import_of};
 pub use fault::ReadError;
-pub use spelled::{read_bytes, read_name, read_s32, read_s33, read_s64, read_u32};
+pub use spelled::{read_bytes, read_name, read_s32, read_s33, read_s64, read_u32, skip_custom};
 pub use types::global_type_of;
-pub use vectors::{Item, vector_of};
+pub use vectors::{Item, sized_vector_of, vector_of};
+
+#[cfg(test)]
+mod tests;

@@ -42,7 +42,13 @@ fn leb_of(bytes: &[u8], most: u32) -> Result<(Leb, &[u8]), ReadError>
         let group = byte as u128;
         if group < 128 {
             let number = number + group * unit;
-            return Ok((Leb { number, top: 128 * unit }, next));
+            return Ok((
+                Leb {
+                    number,
+                    top: 128 * unit,
+                },
+                next,
+            ));
         }
         number += (group - 128) * unit;
         unit *= 128;
@@ -58,11 +64,11 @@ pub fn u32_of(bytes: &[u8]) -> Result<(u32, &[u8]), ReadError>
     ensures shorter { IfOk result (λ x. length x.1.now ≤ length bytes.now) }
     ensures decided { IsDecided result }
 {
-    let (leb, rest) = leb_of(bytes, 5)?;
-    if leb.number > u32::MAX as u128 {
+    let (unsigned, rest) = leb_of(bytes, 5)?;
+    if unsigned.number > u32::MAX as u128 {
         return Err(ReadError::Malformed);
     }
-    Ok((leb.number as u32, rest))
+    Ok((unsigned.number as u32, rest))
 }
 
 /// The word for a number in two's complement, where half of the words aren't negative.
@@ -92,8 +98,8 @@ pub fn s32_of(bytes: &[u8]) -> Result<(u32, &[u8]), ReadError>
     ensures shorter { IfOk result (λ x. length x.1.now ≤ length bytes.now) }
     ensures decided { IsDecided result }
 {
-    let (leb, rest) = leb_of(bytes, 5)?;
-    match word(leb, 1 << 31) {
+    let (signed, rest) = leb_of(bytes, 5)?;
+    match word(signed, 1 << 31) {
         Some(word) => Ok((word as u32, rest)),
         None => Err(ReadError::Malformed),
     }
@@ -120,9 +126,9 @@ pub fn s33_of(bytes: &[u8]) -> Result<(u32, &[u8]), ReadError>
     ensures shorter { IfOk result (λ x. length x.1.now ≤ length bytes.now) }
     ensures decided { IsDecided result }
 {
-    let (leb, rest) = leb_of(bytes, 5)?;
-    if leb.number + leb.number >= leb.top || leb.number > u32::MAX as u128 {
+    let (index, rest) = leb_of(bytes, 5)?;
+    if index.number + index.number >= index.top || index.number > u32::MAX as u128 {
         return Err(ReadError::Malformed);
     }
-    Ok((leb.number as u32, rest))
+    Ok((index.number as u32, rest))
 }

@@ -2,7 +2,7 @@
 
 ghost use Rattle.std.specs.Prelude.{◌≡◌, ◌≤◌, ◌+◌, IfOk, length};
 ghost use Rattle.wasm_grammar.specs.Answers.{Gives, IsDecided};
-ghost use Rattle.wasm_grammar.specs.Reading.{part_at, name_at};
+ghost use Rattle.wasm_grammar.specs.Reading.{part_at, name_at, custom_at};
 
 use crate::fault::ReadError;
 use crate::numbers::u32_of;
@@ -37,6 +37,21 @@ pub fn name_of(alloc: Global, bytes: &[u8]) -> Result<(Name, &[u8]), ReadError>
             let name = Name::from_str(alloc, text)?;
             Ok((name, rest))
         }
+        Err(_) => Err(ReadError::Malformed),
+    }
+}
+
+/// What stands behind the custom section at the front, whose id was read: a size, a name and any bytes. Nothing of it is copied.
+#[tactic(auto, using(crate::proofs::Texts::utf8_yes, crate::proofs::Texts::utf8_no), unfolding(crate::specs::Reading::name_at))]
+pub fn behind_custom(bytes: &[u8]) -> Result<&[u8], ReadError>
+    ensures gives { Gives (λ x. x.now) result (custom_at bytes.now) }
+    ensures shorter { IfOk result (λ x. length x.now ≤ length bytes.now) }
+    ensures decided { IsDecided result }
+{
+    let (part, rest) = part_of(bytes)?;
+    let (name, _) = part_of(part)?;
+    match std::str::from_utf8(name) {
+        Ok(_) => Ok(rest),
         Err(_) => Err(ReadError::Malformed),
     }
 }

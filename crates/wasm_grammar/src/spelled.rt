@@ -5,11 +5,11 @@ ghost use Rattle.std.specs.Prelude.{ℕ, List, IfOk};
 ghost use Rattle.wasm_grammar.specs.Answers.{Answers, IsDecided};
 ghost use Rattle.wasm_grammar.specs.Forms.{Front};
 ghost use Rattle.wasm_grammar.specs.Leb128.{IsU32, IsS32, IsS33, IsS64};
-ghost use Rattle.wasm_grammar.specs.Binary.{IsBytes, IsName};
+ghost use Rattle.wasm_grammar.specs.Binary.{IsBytes, IsName, IsCustom};
 
 use crate::fault::ReadError;
 use crate::numbers::{s32_of, s33_of, s64_of, u32_of};
-use crate::parts::{name_of, part_of};
+use crate::parts::{behind_custom, name_of, part_of};
 use std::alloc::Global;
 use wasm_syntax::Name;
 
@@ -64,4 +64,13 @@ pub fn read_name(alloc: Global, bytes: &[u8]) -> Result<(Name, &[u8]), ReadError
     ensures only { (name : List ℕ) (rest : List ℕ) → Front IsName 0 bytes.now name rest → Answers {Y = List ℕ × List ℕ} (λ x. (x.0, x.1.now)) result (name, rest) }
 {
     name_of(alloc, bytes)
+}
+
+/// The bytes behind the custom section at the front, whose id was read.
+pub fn skip_custom(bytes: &[u8]) -> Result<&[u8], ReadError>
+    ensures spelled { IfOk result (λ rest. (x : List ℕ × List ℕ) × Front IsCustom 0 bytes.now x rest.now) }
+    ensures only { (x : List ℕ × List ℕ) (rest : List ℕ) → Front IsCustom 0 bytes.now x rest → Answers {Y = List ℕ} (λ x. x.now) result rest }
+    ensures decided { IsDecided result }
+{
+    behind_custom(bytes)
 }

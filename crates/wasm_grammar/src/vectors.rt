@@ -3,7 +3,7 @@
 ghost use Rattle.std.specs.Prelude.{◌≡◌, ◌≤◌, ◌<◌, ◌+◌, ◌^◌, IfOk, length};
 ghost use Rattle.wasm_grammar.specs.Answers.{Gives};
 ghost use Rattle.wasm_grammar.specs.Reading.{u32_at};
-ghost use Rattle.wasm_grammar.specs.Threads.{Reader, same_in, vector_in};
+ghost use Rattle.wasm_grammar.specs.Threads.{Reader, same_in, vector_in, whole_in, sized_in};
 ghost use Rattle.wasm_grammar.specs.Types.{val_in, func_type_in, limits_in, table_type_in};
 ghost use Rattle.wasm_grammar.specs.Entries.{import_in, export_in};
 ghost use Rattle.wasm_grammar.specs.declared.built.Built.{Built as BuiltValue};
@@ -12,6 +12,7 @@ use crate::built::Built;
 use crate::entries::{export_of, import_of};
 use crate::fault::ReadError;
 use crate::numbers::u32_of;
+use crate::parts::part_of;
 use crate::types::{func_type_of, limits_of, table_type_of, val_type_of};
 use sqlite_items::Items;
 use std::alloc::Global;
@@ -141,6 +142,25 @@ pub fn vector_of<'a, T: Item>(
         let (item, next) = T::read(alloc, built, after, rest)?;
         items.push(item)?;
         rest = next;
+    }
+    Ok((items, rest))
+}
+
+/// The vector at the front that fills a part whose size is told, as the body of a section, and what stands behind it.
+pub fn sized_vector_of<'a, T: Item>(
+    alloc: Global,
+    built: &mut Built,
+    after: u64,
+    bytes: &'a [u8],
+) -> Result<(Items<T>, &'a [u8]), ReadError>
+    requires { after + length bytes.now < 2 ^ 64 }
+    ensures shorter { IfOk result (λ x. length x.1.now ≤ length bytes.now) }
+    ensures gives { Gives (λ x. ((x.0, built.new), x.1.now)) result (sized_in (whole_in (vector_in T.reading)) built.old after bytes.now) }
+{
+    let (part, rest) = part_of(bytes)?;
+    let (items, left) = vector_of::<T>(alloc, built, after + rest.len() as u64, part)?;
+    if !left.is_empty() {
+        return Err(ReadError::Malformed);
     }
     Ok((items, rest))
 }

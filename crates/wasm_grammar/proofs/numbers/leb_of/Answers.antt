@@ -1,4 +1,4 @@
-use Rattle.std.proofs.Common.{◌<◌, ◌≤◌, arith, rules}
+use Rattle.std.proofs.Common.{arith, rules}
 use Rattle.wasm_grammar.proofs.Groups.{none_left, none_more, last_group, next_group, group_fits, unit_more, unit_bounds}
 use Rattle.wasm_grammar.proofs.numbers.leb_of.Goals as goal
 

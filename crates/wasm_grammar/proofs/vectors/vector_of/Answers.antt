@@ -1,4 +1,4 @@
-use Rattle.std.proofs.Common.{◌≡◌, ◌++◌, ◌∷◌, [], length, arith, sym}
+use Rattle.std.proofs.Common.{arith}
 use Rattle.std.proofs.lemmas.Result.{err_from_is_err_and}
 use Rattle.wasm_grammar.proofs.Loops.{next_item, no_item, last_item}
 use Rattle.wasm_grammar.proofs.vectors.vector_of.Goals as goal
