@@ -1,8 +1,8 @@
 -- A custom section is skipped exactly where one is spelled.
-use Rattle.std.proofs.Common.{◌≡◌, ℕ, ◌+◌, List, ◌++◌, length, Some, Result, Ok, Err, None, refl, sym, ap, subst, ◌∙◌, append_assoc}
+use Rattle.std.proofs.Common.{◌≡◌, ℕ, ◌+◌, List, ◌++◌, length, Some, Result, Ok, Err, refl, sym, ap, subst, ◌∙◌, append_assoc}
 use Rattle.std.specs.Prelude.{IfOk}
-use Rattle.wasm_grammar.specs.Forms.{Any, Both, Front}
-use Rattle.wasm_grammar.specs.Binary.{IsName, IsCustom}
+use Rattle.wasm_grammar.specs.Forms.{Front}
+use Rattle.wasm_grammar.specs.Binary.{IsCustom}
 use Rattle.wasm_grammar.specs.Answers.{Gives, Answers}
 use Rattle.wasm_grammar.specs.Reading.{◌>>=◌, part_at, name_at, custom_at}
 use Rattle.wasm_grammar.specs.declared.fault.ReadError.{ReadError}

@@ -7,4 +7,5 @@ pub mod Exact
 pub mod Customs
 pub mod Threads
 pub mod Productions
+pub mod TokenLaws
 pub mod Loops

@@ -6,4 +6,5 @@ pub mod Reading
 pub mod Threads
 pub mod Leaves
 pub mod Types
+pub mod Instructions
 pub mod Entries

@@ -1,11 +1,11 @@
 use crate::{
-    Built, Leaf, ReadError, export_of, import_of, read_bytes, read_name, read_s32, read_s33,
-    read_s64, read_u32, vector_of,
+    Built, Leaf, ReadError, Token, export_of, import_of, read_bytes, read_name, read_s32, read_s33,
+    read_s64, read_u32, token_of, vector_of,
 };
 use sqlite_items::Items;
 use std::alloc::Global;
 use std::test::Fail;
-use wasm_syntax::{ExportDesc, FuncType, GlobalType, ImportDesc, ValType};
+use wasm_syntax::{BlockType, ExportDesc, FuncType, GlobalType, ImportDesc, Instr, ValType};
 
 fn nothing_built(alloc: Global) -> Built {
     Built {
@@ -134,5 +134,31 @@ fn imports_and_exports(rt: HostRuntime) -> Result<(), Fail> {
     assert_eq!(rt; export.name.as_str(), "add");
     assert_eq!(rt; export.desc, ExportDesc::Func(5));
     assert!(rt; built.first.is_none());
+    Ok(())
+}
+
+#[test]
+fn tokens_of_instructions(rt: HostRuntime) -> Result<(), Fail> {
+    let mut built = nothing_built(rt.alloc());
+    let (token, rest) = token_of(&mut built, 0, &[0x22, 0x81, 0x00, 0x0B])?;
+    assert!(rt; matches!(token, Token::Plain(Instr::LocalTee(1))));
+    assert_eq!(rt; rest, [0x0B].as_slice());
+    let (token, _) = token_of(&mut built, 0, &[0x41, 0x7F])?;
+    assert!(rt; matches!(token, Token::Plain(Instr::I32Const(0xFFFF_FFFF))));
+    let (token, _) = token_of(&mut built, 0, &[0x04, 0x40])?;
+    assert!(rt; matches!(token, Token::If(BlockType::Empty)));
+    let (token, _) = token_of(&mut built, 0, &[0x02, 0x85, 0x00])?;
+    assert!(rt; matches!(token, Token::Block(BlockType::Index(5))));
+    let (token, _) = token_of(&mut built, 4, &[0x03, 0x7B])?;
+    assert!(rt; matches!(token, Token::Loop(BlockType::One(_))));
+    assert_eq!(rt;
+        built.first,
+        Some(Leaf {
+            left: 5,
+            what: crate::Foreign::Simd
+        })
+    );
+    assert!(rt; token_of(&mut built, 0, &[0x02, 0x41]).is_err());
+    assert!(rt; token_of(&mut built, 0, &[0x06]).is_err());
     Ok(())
 }
