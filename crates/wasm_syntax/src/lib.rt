@@ -1,6 +1,26 @@
-//! Plain data of WebAssembly that several layers speak of, after WebAssembly Core 2.0.
+//! Plain data of WebAssembly that several layers speak of, after WebAssembly Core 2.0: types, instructions, modules, values and
+//! traps. Nothing here is checked: a module may be any data of its type.
 #![tactic(auto)]
 
-pub use trap::Trap;
-
+mod addresses;
+mod instructions;
+mod module;
+mod name;
 mod trap;
+mod types;
+mod value;
+
+pub use addresses::{
+    DataAddr, ElemAddr, ExternAddr, FuncAddr, GlobalAddr, InstAddr, MemAddr, ModuleAddr, TableAddr,
+};
+pub use instructions::{BlockId, BlockType, Instr, MemArg};
+pub use module::{
+    Data, Elem, Export, ExportDesc, Func, GlobalDef, Import, ImportDesc, Mode, Module,
+};
+pub use name::Name;
+pub use trap::Trap;
+pub use types::{FuncType, GlobalType, Limit, TableType, ValType};
+pub use value::Value;
+
+#[cfg(test)]
+mod tests;

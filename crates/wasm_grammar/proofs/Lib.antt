@@ -1,0 +1,11 @@
+pub mod Steps
+pub mod Integers
+pub mod Groups
+pub mod Texts
+pub mod Sizes
+pub mod Exact
+pub mod Customs
+pub mod Threads
+pub mod Productions
+pub mod TokenLaws
+pub mod Loops

@@ -1,0 +1,10 @@
+pub mod Forms
+pub mod Leb128
+pub mod Binary
+pub mod Answers
+pub mod Reading
+pub mod Threads
+pub mod Leaves
+pub mod Types
+pub mod Instructions
+pub mod Entries

@@ -1,0 +1,37 @@
+//! What reading a module builds beside the values that it gives.
+
+ghost use Rattle.std.specs.Prelude.{◌≡◌};
+ghost use Rattle.wasm_grammar.specs.Leaves.{with_leaf};
+
+use sqlite_items::Items;
+use wasm_syntax::Instr;
+
+/// What the profile leaves out of WebAssembly: floating types and instructions, and vector ones.
+#[derive(Clone, Copy, PartialEq, Eq, Debug)]
+pub enum Foreign {
+    Float,
+    Simd,
+}
+
+/// A foreign type or instruction in a module, and how many bytes of the file its first byte begins.
+#[derive(Clone, Copy, PartialEq, Eq, Debug)]
+pub struct Leaf {
+    pub left: u64,
+    pub what: Foreign,
+}
+
+/// The blocks that have ended, by their numbers, and the first foreign leaf.
+#[derive(Debug, Drop)]
+pub struct Built {
+    pub blocks: Items<Items<Instr>>,
+    pub first: Option<Leaf>,
+}
+
+/// Notes a leaf, where it is the first one.
+pub fn note(built: &mut Built, leaf: Leaf)
+    ensures { built.new ≡ with_leaf built.old leaf }
+{
+    if built.first.is_none() {
+        built.first = Some(leaf);
+    }
+}

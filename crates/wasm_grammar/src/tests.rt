@@ -1,0 +1,164 @@
+use crate::{
+    Built, Leaf, ReadError, Token, export_of, import_of, read_bytes, read_name, read_s32, read_s33,
+    read_s64, read_u32, token_of, vector_of,
+};
+use sqlite_items::Items;
+use std::alloc::Global;
+use std::test::Fail;
+use wasm_syntax::{BlockType, ExportDesc, FuncType, GlobalType, ImportDesc, Instr, ValType};
+
+fn nothing_built(alloc: Global) -> Built {
+    Built {
+        blocks: Items::new(alloc),
+        first: None,
+    }
+}
+
+#[test]
+fn unsigned_integers_of_32_bits(rt: HostRuntime) {
+    assert_eq!(rt; read_u32(&[0x05, 0x09]), Ok((5, [0x09].as_slice())));
+    assert_eq!(rt; read_u32(&[0xE5, 0x8E, 0x26]), Ok((624485, [].as_slice())));
+    assert_eq!(rt;
+        read_u32(&[0x85, 0x80, 0x80, 0x80, 0x00]),
+        Ok((5, [].as_slice()))
+    );
+    assert_eq!(rt;
+        read_u32(&[0xFF, 0xFF, 0xFF, 0xFF, 0x0F]),
+        Ok((0xFFFF_FFFF, [].as_slice()))
+    );
+    assert_eq!(rt;
+        read_u32(&[0xFF, 0xFF, 0xFF, 0xFF, 0x1F]),
+        Err(ReadError::Malformed)
+    );
+    assert_eq!(rt;
+        read_u32(&[0x85, 0x80, 0x80, 0x80, 0x80, 0x00]),
+        Err(ReadError::Malformed)
+    );
+    assert_eq!(rt; read_u32(&[0x85]), Err(ReadError::Malformed));
+    assert_eq!(rt; read_u32(&[]), Err(ReadError::Malformed));
+}
+
+#[test]
+fn signed_integers_as_words(rt: HostRuntime) {
+    assert_eq!(rt; read_s32(&[0x7F]), Ok((0xFFFF_FFFF, [].as_slice())));
+    assert_eq!(rt;
+        read_s32(&[0xC0, 0xBB, 0x78]),
+        Ok((0xFFFE_1DC0, [].as_slice()))
+    );
+    assert_eq!(rt;
+        read_s32(&[0xFF, 0xFF, 0xFF, 0xFF, 0x7F]),
+        Ok((0xFFFF_FFFF, [].as_slice()))
+    );
+    assert_eq!(rt;
+        read_s32(&[0x80, 0x80, 0x80, 0x80, 0x78]),
+        Ok((0x8000_0000, [].as_slice()))
+    );
+    assert_eq!(rt;
+        read_s32(&[0xFF, 0xFF, 0xFF, 0xFF, 0x0F]),
+        Err(ReadError::Malformed)
+    );
+    assert_eq!(rt;
+        read_s32(&[0x80, 0x80, 0x80, 0x80, 0x70]),
+        Err(ReadError::Malformed)
+    );
+    assert_eq!(rt;
+        read_s64(&[0x80, 0x7F]),
+        Ok((0xFFFF_FFFF_FFFF_FF80, [].as_slice()))
+    );
+    let least = [0x80, 0x80, 0x80, 0x80, 0x80, 0x80, 0x80, 0x80, 0x80, 0x7F];
+    assert_eq!(rt;
+        read_s64(&least),
+        Ok((0x8000_0000_0000_0000, [].as_slice()))
+    );
+    let cut = [0x80, 0x80, 0x80, 0x80, 0x80, 0x80, 0x80, 0x80, 0x80, 0x01];
+    assert_eq!(rt; read_s64(&cut), Err(ReadError::Malformed));
+    assert_eq!(rt;
+        read_s33(&[0xFF, 0xFF, 0xFF, 0xFF, 0x0F]),
+        Ok((0xFFFF_FFFF, [].as_slice()))
+    );
+    assert_eq!(rt; read_s33(&[0x40]), Err(ReadError::Malformed));
+}
+
+#[test]
+fn names_are_utf_8(rt: HostRuntime) -> Result<(), Fail> {
+    let bytes = [0x03, b'a', 0xC3, 0xA4, 0x07];
+    let (name, rest) = read_name(rt.alloc(), &bytes)?;
+    assert_eq!(rt; name.as_str(), "aä");
+    assert_eq!(rt; rest.len(), 1);
+    assert!(rt; read_name(rt.alloc(), &[0x02, b'a', 0xC3]).is_err());
+    assert!(rt; read_name(rt.alloc(), &[0x03, b'a']).is_err());
+    assert_eq!(rt;
+        read_bytes(&[0x02, 0x09, 0x08, 0x07]),
+        Ok(([0x09, 0x08].as_slice(), [0x07].as_slice()))
+    );
+    Ok(())
+}
+
+#[test]
+fn types_and_what_the_profile_leaves_out(rt: HostRuntime) -> Result<(), Fail> {
+    let alloc = rt.alloc();
+    let mut built = nothing_built(alloc);
+    let bytes = [0x01, 0x60, 0x02, 0x7F, 0x7C, 0x01, 0x7B];
+    let (types, rest) = vector_of::<FuncType>(alloc, &mut built, 3, &bytes)?;
+    assert_eq!(rt; types.len(), 1);
+    assert_eq!(rt; rest.len(), 0);
+    let first = built.first.ok_or("no leaf was noted")?;
+    assert_eq!(rt;
+        first,
+        Leaf {
+            left: 6,
+            what: crate::Foreign::Float
+        }
+    );
+    let few = [0xFF, 0xFF, 0xFF, 0xFF, 0x0F, 0x7F];
+    assert!(rt; vector_of::<ValType>(alloc, &mut built, 0, &few).is_err());
+    Ok(())
+}
+
+#[test]
+fn imports_and_exports(rt: HostRuntime) -> Result<(), Fail> {
+    let alloc = rt.alloc();
+    let mut built = nothing_built(alloc);
+    let bytes = [0x01, b'm', 0x01, b'g', 0x03, 0x7E, 0x01];
+    let (import, _) = import_of(alloc, &mut built, 0, &bytes)?;
+    assert_eq!(rt; import.module.as_str(), "m");
+    assert_eq!(rt; import.name.as_str(), "g");
+    assert_eq!(rt;
+        import.desc,
+        ImportDesc::Global(GlobalType {
+            val: ValType::I64,
+            mutable: true
+        })
+    );
+    let (export, _) = export_of(alloc, &mut built, 0, &[0x03, b'a', b'd', b'd', 0x00, 0x05])?;
+    assert_eq!(rt; export.name.as_str(), "add");
+    assert_eq!(rt; export.desc, ExportDesc::Func(5));
+    assert!(rt; built.first.is_none());
+    Ok(())
+}
+
+#[test]
+fn tokens_of_instructions(rt: HostRuntime) -> Result<(), Fail> {
+    let mut built = nothing_built(rt.alloc());
+    let (token, rest) = token_of(&mut built, 0, &[0x22, 0x81, 0x00, 0x0B])?;
+    assert!(rt; matches!(token, Token::Plain(Instr::LocalTee(1))));
+    assert_eq!(rt; rest, [0x0B].as_slice());
+    let (token, _) = token_of(&mut built, 0, &[0x41, 0x7F])?;
+    assert!(rt; matches!(token, Token::Plain(Instr::I32Const(0xFFFF_FFFF))));
+    let (token, _) = token_of(&mut built, 0, &[0x04, 0x40])?;
+    assert!(rt; matches!(token, Token::If(BlockType::Empty)));
+    let (token, _) = token_of(&mut built, 0, &[0x02, 0x85, 0x00])?;
+    assert!(rt; matches!(token, Token::Block(BlockType::Index(5))));
+    let (token, _) = token_of(&mut built, 4, &[0x03, 0x7B])?;
+    assert!(rt; matches!(token, Token::Loop(BlockType::One(_))));
+    assert_eq!(rt;
+        built.first,
+        Some(Leaf {
+            left: 5,
+            what: crate::Foreign::Simd
+        })
+    );
+    assert!(rt; token_of(&mut built, 0, &[0x02, 0x41]).is_err());
+    assert!(rt; token_of(&mut built, 0, &[0x06]).is_err());
+    Ok(())
+}
