@@ -10,7 +10,7 @@ use Rattle.wasm_grammar.specs.Leb128.{IsU32, IsS32, IsS33, IsS64}
 use Rattle.wasm_grammar.specs.Reading.{u32_at, s32_at, s33_at, s64_at}
 use Rattle.wasm_grammar.specs.Threads.{make_same, same_in, of_in}
 use Rattle.wasm_grammar.specs.Types.{TypeTree, IsValType, val_in}
-use Rattle.wasm_grammar.specs.Instructions.{BlockTree, empty, one, index, make_block_type, IsBlockType, block_type_in, plain, block, loop, choice, otherwise, end_of, make_token, with_immediate, IsControl, IsVariable, IsNumeric, IsToken, control_in, variable_in, numeric_in, token_in}
+use Rattle.wasm_grammar.specs.Instructions.{BlockTree, empty, one, index, make_block_type, IsBlockType, block_type_in, plain, block, loop, choice, otherwise, end_of, make_any_token, make_token, with_immediate, IsControl, IsVariable, IsNumeric, IsToken, control_in, variable_in, numeric_in, token_in}
 use Rattle.wasm_grammar.proofs.Steps.{chosen, some_is}
 use Rattle.wasm_grammar.proofs.Integers.{u32_reads, signed_reads, s33_reads}
 use Rattle.wasm_grammar.proofs.Threads.{Took, Reads, same_reads, nothing_reads, never_reads, when_reads, by_first_reads, of_reads, made_reads}
@@ -115,42 +115,42 @@ block_type_reads = record { takes = block_type_takes; again = block_type_again }
 
 -- ---- tokens
 
-control_reads : (b : ℕ) → Reads (IsControl b) make_token (control_in b)
+control_reads : (b : ℕ) → Reads (IsControl b) make_any_token (control_in b)
 unfolding control_in
 control_reads b =
-    when_reads (eqb b 0) _ _ _ _ _ (nothing_reads (plain i.Unreachable) make_token) (
-    when_reads (eqb b 1) _ _ _ _ _ (nothing_reads (plain i.Nop) make_token) (
-    when_reads (eqb b 2) _ _ _ _ _ (made_reads block _ make_token _ (of_reads t.Block _ _ _ block_type_reads)) (
-    when_reads (eqb b 3) _ _ _ _ _ (made_reads loop _ make_token _ (of_reads t.Loop _ _ _ block_type_reads)) (
-    when_reads (eqb b 4) _ _ _ _ _ (made_reads choice _ make_token _ (of_reads t.If _ _ _ block_type_reads)) (
-    when_reads (eqb b 5) _ _ _ _ _ (nothing_reads otherwise make_token) (
-    when_reads (eqb b 11) _ _ _ _ _ (nothing_reads end_of make_token) (
-    when_reads (eqb b 12) _ _ _ _ _ (made_reads (with_immediate i.Br) _ make_token _ (of_reads (λ (x : ℕ). t.Plain (i.Br x)) _ _ _ u32s)) (
-    when_reads (eqb b 13) _ _ _ _ _ (made_reads (with_immediate i.BrIf) _ make_token _ (of_reads (λ (x : ℕ). t.Plain (i.BrIf x)) _ _ _ u32s)) (
-    when_reads (eqb b 15) _ _ _ _ _ (nothing_reads (plain i.Return) make_token) (
-    when_reads (eqb b 16) _ _ _ _ _ (made_reads (with_immediate i.Call) _ make_token _ (of_reads (λ (x : ℕ). t.Plain (i.Call x)) _ _ _ u32s)) (
+    when_reads (eqb b 0) _ _ _ _ _ (nothing_reads (plain i.Unreachable) make_any_token) (
+    when_reads (eqb b 1) _ _ _ _ _ (nothing_reads (plain i.Nop) make_any_token) (
+    when_reads (eqb b 2) _ _ _ _ _ (made_reads block _ make_any_token _ (of_reads t.Block _ _ _ block_type_reads)) (
+    when_reads (eqb b 3) _ _ _ _ _ (made_reads loop _ make_any_token _ (of_reads t.Loop _ _ _ block_type_reads)) (
+    when_reads (eqb b 4) _ _ _ _ _ (made_reads choice _ make_any_token _ (of_reads t.If _ _ _ block_type_reads)) (
+    when_reads (eqb b 5) _ _ _ _ _ (nothing_reads otherwise make_any_token) (
+    when_reads (eqb b 11) _ _ _ _ _ (nothing_reads end_of make_any_token) (
+    when_reads (eqb b 12) _ _ _ _ _ (made_reads (with_immediate i.Br) _ make_any_token _ (of_reads (λ (x : ℕ). t.Plain (i.Br x)) _ _ _ u32s)) (
+    when_reads (eqb b 13) _ _ _ _ _ (made_reads (with_immediate i.BrIf) _ make_any_token _ (of_reads (λ (x : ℕ). t.Plain (i.BrIf x)) _ _ _ u32s)) (
+    when_reads (eqb b 15) _ _ _ _ _ (nothing_reads (plain i.Return) make_any_token) (
+    when_reads (eqb b 16) _ _ _ _ _ (made_reads (with_immediate i.Call) _ make_any_token _ (of_reads (λ (x : ℕ). t.Plain (i.Call x)) _ _ _ u32s)) (
     never_reads _)))))))))))
 
-variable_reads : (b : ℕ) → Reads (IsVariable b) make_token (variable_in b)
+variable_reads : (b : ℕ) → Reads (IsVariable b) make_any_token (variable_in b)
 unfolding variable_in
 variable_reads b =
-    when_reads (eqb b 26) _ _ _ _ _ (nothing_reads (plain i.Drop) make_token) (
-    when_reads (eqb b 27) _ _ _ _ _ (nothing_reads (plain i.Select) make_token) (
-    when_reads (eqb b 32) _ _ _ _ _ (made_reads (with_immediate i.LocalGet) _ make_token _ (of_reads (λ (x : ℕ). t.Plain (i.LocalGet x)) _ _ _ u32s)) (
-    when_reads (eqb b 33) _ _ _ _ _ (made_reads (with_immediate i.LocalSet) _ make_token _ (of_reads (λ (x : ℕ). t.Plain (i.LocalSet x)) _ _ _ u32s)) (
-    when_reads (eqb b 34) _ _ _ _ _ (made_reads (with_immediate i.LocalTee) _ make_token _ (of_reads (λ (x : ℕ). t.Plain (i.LocalTee x)) _ _ _ u32s)) (
-    when_reads (eqb b 35) _ _ _ _ _ (made_reads (with_immediate i.GlobalGet) _ make_token _ (of_reads (λ (x : ℕ). t.Plain (i.GlobalGet x)) _ _ _ u32s)) (
-    when_reads (eqb b 36) _ _ _ _ _ (made_reads (with_immediate i.GlobalSet) _ make_token _ (of_reads (λ (x : ℕ). t.Plain (i.GlobalSet x)) _ _ _ u32s)) (
+    when_reads (eqb b 26) _ _ _ _ _ (nothing_reads (plain i.Drop) make_any_token) (
+    when_reads (eqb b 27) _ _ _ _ _ (nothing_reads (plain i.Select) make_any_token) (
+    when_reads (eqb b 32) _ _ _ _ _ (made_reads (with_immediate i.LocalGet) _ make_any_token _ (of_reads (λ (x : ℕ). t.Plain (i.LocalGet x)) _ _ _ u32s)) (
+    when_reads (eqb b 33) _ _ _ _ _ (made_reads (with_immediate i.LocalSet) _ make_any_token _ (of_reads (λ (x : ℕ). t.Plain (i.LocalSet x)) _ _ _ u32s)) (
+    when_reads (eqb b 34) _ _ _ _ _ (made_reads (with_immediate i.LocalTee) _ make_any_token _ (of_reads (λ (x : ℕ). t.Plain (i.LocalTee x)) _ _ _ u32s)) (
+    when_reads (eqb b 35) _ _ _ _ _ (made_reads (with_immediate i.GlobalGet) _ make_any_token _ (of_reads (λ (x : ℕ). t.Plain (i.GlobalGet x)) _ _ _ u32s)) (
+    when_reads (eqb b 36) _ _ _ _ _ (made_reads (with_immediate i.GlobalSet) _ make_any_token _ (of_reads (λ (x : ℕ). t.Plain (i.GlobalSet x)) _ _ _ u32s)) (
     never_reads _)))))))
 
-numeric_reads : (b : ℕ) → Reads (IsNumeric b) make_token (numeric_in b)
+numeric_reads : (b : ℕ) → Reads (IsNumeric b) make_any_token (numeric_in b)
 unfolding numeric_in
 numeric_reads b =
-    when_reads (eqb b 65) _ _ _ _ _ (made_reads (with_immediate i.I32Const) _ make_token _ (of_reads (λ (x : ℕ). t.Plain (i.I32Const x)) _ _ _ s32s)) (
-    when_reads (eqb b 66) _ _ _ _ _ (made_reads (with_immediate i.I64Const) _ make_token _ (of_reads (λ (x : ℕ). t.Plain (i.I64Const x)) _ _ _ s64s)) (
-    when_reads (eqb b 106) _ _ _ _ _ (nothing_reads (plain i.I32Add) make_token) (
+    when_reads (eqb b 65) _ _ _ _ _ (made_reads (with_immediate i.I32Const) _ make_any_token _ (of_reads (λ (x : ℕ). t.Plain (i.I32Const x)) _ _ _ s32s)) (
+    when_reads (eqb b 66) _ _ _ _ _ (made_reads (with_immediate i.I64Const) _ make_any_token _ (of_reads (λ (x : ℕ). t.Plain (i.I64Const x)) _ _ _ s64s)) (
+    when_reads (eqb b 106) _ _ _ _ _ (nothing_reads (plain i.I32Add) make_any_token) (
     never_reads _)))
 
-pub token_reads : Reads IsToken make_token token_in
+pub token_reads : (entry : Bool) → Reads (IsToken entry) (make_token entry) (token_in entry)
 unfolding token_in
-token_reads = by_first_reads _ _ _ (λ b. when_reads (ltb b 26) _ _ _ _ _ (control_reads b) (when_reads (ltb b 65) _ _ _ _ _ (variable_reads b) (numeric_reads b)))
+token_reads entry = by_first_reads _ _ _ (λ b. when_reads (ltb b 26) _ _ _ _ _ (control_reads b) (when_reads (ltb b 65) _ _ _ _ _ (variable_reads b) (numeric_reads b)))

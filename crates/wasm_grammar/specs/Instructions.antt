@@ -1,8 +1,9 @@
 -- Instructions as tokens (WebAssembly Core 2.0, section 5.4): an expression is spelled by one token after the other, and a token is
 -- an instruction, or the place where a block begins, goes on with its second part, or ends.
-use Rattle.std.specs.Prelude.{◌≡◌, ℕ, List, [], ◌∷◌, Option, Some, None, nat_lt, ◌==◌, ◌&&◌, cond}
+use Rattle.std.specs.Prelude.{◌≡◌, ℕ, List, [], ◌∷◌, Option, Some, None, nat_lt, ◌==◌, ◌&&◌, cond, Bool, true}
 use Rattle.wasm_syntax.specs.declared.instructions.BlockType.{BlockType}
 use Rattle.wasm_syntax.specs.declared.instructions.BlockType.TheVariants as bt
+use Rattle.wasm_syntax.specs.declared.types.ValType.{ValType}
 use Rattle.wasm_syntax.specs.declared.instructions.Instr.{Instr}
 use Rattle.wasm_syntax.specs.declared.instructions.Instr.TheVariants as i
 use Rattle.wasm_grammar.specs.declared.built.Leaf.{Leaf}
@@ -13,7 +14,7 @@ use Rattle.wasm_grammar.specs.Forms.{Form, Nothing, Made, ByFirst, When, Never}
 use Rattle.wasm_grammar.specs.Leb128.{IsU32, IsS32, IsS33, IsS64}
 use Rattle.wasm_grammar.specs.Leaves.{with_leaf}
 use Rattle.wasm_grammar.specs.Reading.{u32_at, s32_at, s33_at, s64_at}
-use Rattle.wasm_grammar.specs.Threads.{Making, make_of, Reader, same_in, nothing_in, never_in, of_in, by_first, when}
+use Rattle.wasm_grammar.specs.Threads.{Making, make_each, make_of, Reader, same_in, nothing_in, never_in, of_in, by_first, when}
 use Rattle.wasm_grammar.specs.Types.{TypeTree, make_type, IsValType, val_in}
 
 -- ---- block types (5.4.1): 40, a value type, or the index of a type as a signed integer of 33 bits
@@ -44,6 +45,8 @@ block_type_in s after (b ∷ bytes) =
 
 pub data TokenTree : Type 0 where
   plain : Instr → TokenTree
+  data_access : Instr → TokenTree
+  selection : List TypeTree → TokenTree
   leaf : Leaf → TokenTree
   block : BlockTree → TokenTree
   loop : BlockTree → TokenTree
@@ -51,14 +54,19 @@ pub data TokenTree : Type 0 where
   otherwise : TokenTree
   end_of : TokenTree
 
-abbrev pub make_token : Making Built TokenTree Token
-make_token (plain instr) s = (t.Plain instr, s)
-make_token (leaf first) s = (t.Foreign, with_leaf s first)
-make_token (block tree) s = make_of t.Block make_block_type tree s
-make_token (loop tree) s = make_of t.Loop make_block_type tree s
-make_token (choice tree) s = make_of t.If make_block_type tree s
-make_token otherwise s = (t.Else, s)
-make_token end_of s = (t.End, s)
+abbrev pub typed_selection : List ValType → Token
+typed_selection types = t.Plain (i.SelectTyped types)
+
+abbrev pub make_any_token : Making Built TokenTree Token
+make_any_token (plain instr) s = (t.Plain instr, s)
+make_any_token (data_access instr) s = (t.Plain instr, record s { data_used = true })
+make_any_token (selection types) s = make_of typed_selection (make_each make_type) types s
+make_any_token (leaf first) s = (t.Foreign, with_leaf s first)
+make_any_token (block tree) s = make_of t.Block make_block_type tree s
+make_any_token (loop tree) s = make_of t.Loop make_block_type tree s
+make_any_token (choice tree) s = make_of t.If make_block_type tree s
+make_any_token otherwise s = (t.Else, s)
+make_any_token end_of s = (t.End, s)
 
 -- an instruction with one immediate
 abbrev pub with_immediate : {A : Type 0} → (A → Instr) → A → TokenTree
@@ -100,8 +108,12 @@ IsNumeric b =
     When (b == 106) (Nothing (plain i.I32Add)) (
     Never)))
 
-abbrev pub IsToken : Form TokenTree
-IsToken = ByFirst (λ b. When (nat_lt b 26) (IsControl b) (When (nat_lt b 65) (IsVariable b) (IsNumeric b)))
+-- a token; in a code entry or elsewhere
+abbrev pub make_token : (entry : Bool) → Making Built TokenTree Token
+make_token entry tree s = make_any_token tree s
+
+abbrev pub IsToken : (entry : Bool) → Form TokenTree
+IsToken entry = ByFirst (λ b. When (nat_lt b 26) (IsControl b) (When (nat_lt b 65) (IsVariable b) (IsNumeric b)))
 
 -- ---- reading
 
@@ -110,23 +122,23 @@ immediate_in f read = of_in (λ x. t.Plain (f x)) (same_in read)
 
 unfoldable pub control_in : ℕ → Reader Built Token
 control_in b =
-    when (b == 0) (nothing_in (make_token (plain i.Unreachable))) (
-    when (b == 1) (nothing_in (make_token (plain i.Nop))) (
+    when (b == 0) (nothing_in (make_any_token (plain i.Unreachable))) (
+    when (b == 1) (nothing_in (make_any_token (plain i.Nop))) (
     when (b == 2) (of_in t.Block block_type_in) (
     when (b == 3) (of_in t.Loop block_type_in) (
     when (b == 4) (of_in t.If block_type_in) (
-    when (b == 5) (nothing_in (make_token otherwise)) (
-    when (b == 11) (nothing_in (make_token end_of)) (
+    when (b == 5) (nothing_in (make_any_token otherwise)) (
+    when (b == 11) (nothing_in (make_any_token end_of)) (
     when (b == 12) (immediate_in i.Br u32_at) (
     when (b == 13) (immediate_in i.BrIf u32_at) (
-    when (b == 15) (nothing_in (make_token (plain i.Return))) (
+    when (b == 15) (nothing_in (make_any_token (plain i.Return))) (
     when (b == 16) (immediate_in i.Call u32_at) (
     never_in)))))))))))
 
 unfoldable pub variable_in : ℕ → Reader Built Token
 variable_in b =
-    when (b == 26) (nothing_in (make_token (plain i.Drop))) (
-    when (b == 27) (nothing_in (make_token (plain i.Select))) (
+    when (b == 26) (nothing_in (make_any_token (plain i.Drop))) (
+    when (b == 27) (nothing_in (make_any_token (plain i.Select))) (
     when (b == 32) (immediate_in i.LocalGet u32_at) (
     when (b == 33) (immediate_in i.LocalSet u32_at) (
     when (b == 34) (immediate_in i.LocalTee u32_at) (
@@ -138,8 +150,8 @@ unfoldable pub numeric_in : ℕ → Reader Built Token
 numeric_in b =
     when (b == 65) (immediate_in i.I32Const s32_at) (
     when (b == 66) (immediate_in i.I64Const s64_at) (
-    when (b == 106) (nothing_in (make_token (plain i.I32Add))) (
+    when (b == 106) (nothing_in (make_any_token (plain i.I32Add))) (
     never_in)))
 
-unfoldable pub token_in : Reader Built Token
-token_in = by_first (λ b. when (nat_lt b 26) (control_in b) (when (nat_lt b 65) (variable_in b) (numeric_in b)))
+unfoldable pub token_in : (entry : Bool) → Reader Built Token
+token_in entry = by_first (λ b. when (nat_lt b 26) (control_in b) (when (nat_lt b 65) (variable_in b) (numeric_in b)))

@@ -4,7 +4,15 @@ pub mod Binary
 pub mod Answers
 pub mod Reading
 pub mod Threads
+pub mod Choices
 pub mod Leaves
 pub mod Types
 pub mod Instructions
 pub mod Entries
+pub mod Code
+pub mod Running
+pub mod Functions
+pub mod Segments
+pub mod Sections
+pub mod Module
+pub mod Decoding

@@ -1,9 +1,13 @@
 //! The binary format of WebAssembly Core 2.0, chapter 5: which bytes spell a module, and readers that are exact.
 #![tactic(auto)]
 
+mod blocks;
 mod built;
+mod decode;
 mod entries;
 mod fault;
+mod functions;
+mod held;
 mod numbers;
 mod opcodes;
 mod parts;
@@ -12,6 +16,7 @@ mod tokens;
 mod types;
 mod vectors;
 
+pub use decode::{DecodeError, decodes_once};
 pub use built::{Built, Foreign, Leaf};
 pub use entries::{export_of, import_of};
 pub use fault::ReadError;

@@ -9,6 +9,7 @@ use crate::fault::ReadError;
 use crate::numbers::{s32_of, s33_of, s64_of, u32_of};
 use crate::tokens::Token;
 use crate::types::val_type_of;
+use std::alloc::Global;
 use wasm_syntax::{BlockType, Instr};
 
 /// The block type at the front.
@@ -150,13 +151,15 @@ fn numeric_of<'a>(
 /// The token at the front.
 #[tactic(auto, unfolding(crate::specs::Instructions::token_in))]
 pub fn token_of<'a>(
+    _alloc: Global,
+    entry: bool,
     built: &mut Built,
     after: u64,
     bytes: &'a [u8],
 ) -> Result<(Token, &'a [u8]), ReadError>
     requires { after + length bytes.now < 2 ^ 64 }
     ensures shorter { IfOk result (λ x. length x.1.now ≤ length bytes.now) }
-    ensures gives { Gives (λ x. ((x.0, built.new), x.1.now)) result (token_in built.old after bytes.now) }
+    ensures gives { Gives (λ x. ((x.0, built.new), x.1.now)) result (token_in entry built.old after bytes.now) }
 {
     let [op, rest @ ..] = bytes else {
         return Err(ReadError::Malformed);

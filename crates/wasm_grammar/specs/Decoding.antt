@@ -1,0 +1,26 @@
+-- What a decoder of modules tells of bytes.
+use Rattle.std.specs.Prelude.{◌≡◌, ℕ, ◌-◌, List, length, Option, Some, None, Result, Ok, Err}
+use Rattle.wasm_syntax.specs.declared.module.Module.{Module}
+use Rattle.wasm_grammar.specs.declared.built.Foreign.{Foreign}
+use Rattle.wasm_grammar.specs.declared.built.Leaf.{Leaf}
+use Rattle.wasm_grammar.specs.declared.decode.DecodeError.{DecodeError}
+use Rattle.wasm_grammar.specs.declared.decode.DecodeError.TheVariants as errors
+use Rattle.wasm_grammar.specs.Module.{ModuleTree, Spells, module_of, first_leaf}
+
+-- a module, no module, or a module with a foreign leaf, of which the first one begins at a place
+pub data Decoded : Type 0 where
+  module_is : Module → Decoded
+  malformed : Decoded
+  outside : (place : ℕ) → Foreign → Decoded
+
+abbrev pub Decodes : List ℕ → Decoded → Type 0
+Decodes bytes (module_is m) = (tree : ModuleTree) × Spells bytes tree × (first_leaf tree ≡ None) × (m ≡ module_of tree)
+Decodes bytes malformed = (tree : ModuleTree) → Spells bytes tree → ⊥
+Decodes bytes (outside place what) = (tree : ModuleTree) × Spells bytes tree × (leaf : Leaf) × (first_leaf tree ≡ Some leaf) × (place ≡ length bytes - leaf.left) × (what ≡ leaf.what)
+
+-- what an answer tells: nothing where memory ran out
+abbrev pub told : Result Module DecodeError → Option Decoded
+told (Ok m) = Some (module_is m)
+told (Err errors.Malformed) = Some malformed
+told (Err (errors.Outside place what)) = Some (outside place what)
+told (Err errors.NoMemory) = None
