@@ -9,3 +9,4 @@ pub mod Threads
 pub mod Productions
 pub mod TokenLaws
 pub mod Loops
+pub mod Trees
