@@ -10,3 +10,5 @@ pub mod Productions
 pub mod TokenLaws
 pub mod Loops
 pub mod Trees
+pub mod Runs
+pub mod Cuts

@@ -198,7 +198,7 @@ module _ {S T B : Type 0} (P : Form T) (f : Making S T B) (read : Reader S B) (r
 
 -- ---- all of the bytes
 
-at_end_is : {A : Type 0} (r : Option (A × List ℕ)) (y : A) → at_end r ≡ Some y → r ≡ Some (y, [])
+pub at_end_is : {A : Type 0} (r : Option (A × List ℕ)) (y : A) → at_end r ≡ Some y → r ≡ Some (y, [])
 at_end_is None y e = absurd cc
 at_end_is {A} (Some x) y e =
     let g = guard_is (eqb (length x.1) 0) (Some x.0) y e in

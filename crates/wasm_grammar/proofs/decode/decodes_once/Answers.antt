@@ -1,5 +1,5 @@
 use Rattle.wasm_grammar.specs.Decoding.{Decoded, Decodes}
-use Rattle.wasm_grammar.proofs.Trees.{goes_again, goes_found}
+use Rattle.wasm_grammar.proofs.Cuts.{body_reads}
 use Rattle.wasm_grammar.proofs.decode.decodes_once.Goals as goal
 
 pub returns-clause-total : goal.returns-clause-total
