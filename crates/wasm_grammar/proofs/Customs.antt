@@ -19,8 +19,8 @@ custom_takes after bytes rest e =
     let f : Front IsCustom after bytes b.0 a.0.1 = record { front = t.front ++ a.0.0; parts = t.parts; is_form = record { front = t.front; back = a.0.0; parts = refl; size = t.size; body = record { front = n.front; back = b.0.1; parts = n.parts; first = n.is_form; second = refl } } } in
     (b.0, subst (λ (w : List ℕ). Front IsCustom after bytes b.0 w) (some_is _ _ b.2) f)
 
-pub custom_again : (bytes rest : List ℕ) (x : List ℕ × List ℕ) → Front IsCustom 0 bytes x rest → custom_at bytes ≡ Some rest
-custom_again bytes rest x f =
+pub custom_again : (after : ℕ) (bytes rest : List ℕ) (x : List ℕ × List ℕ) → Front IsCustom after bytes x rest → custom_at bytes ≡ Some rest
+custom_again after bytes rest x f =
     let p = f.is_form in
     let b = p.body in
     let whole_is : bytes ≡ p.front ++ (p.back ++ rest) = f.parts ∙ ap (λ (w : List ℕ). w ++ rest) p.parts ∙ append_assoc p.front p.back rest in
@@ -31,6 +31,6 @@ custom_spelled bytes view (Ok y) gives = custom_takes 0 bytes (view y) gives
 custom_spelled bytes view (Err e) gives = tt
 
 pub custom_only : (bytes : List ℕ) {X : Type 0} (view : X → List ℕ) (r : Result X ReadError) → Gives view r (custom_at bytes) → (x : List ℕ × List ℕ) (rest : List ℕ) → Front IsCustom 0 bytes x rest → Answers view r rest
-custom_only bytes view (Ok y) gives x rest f = some_is _ _ (sym gives ∙ custom_again bytes rest x f)
-custom_only bytes view (Err errors.Malformed) gives x rest f = none_some rest (sym gives ∙ custom_again bytes rest x f)
+custom_only bytes view (Ok y) gives x rest f = some_is _ _ (sym gives ∙ custom_again 0 bytes rest x f)
+custom_only bytes view (Err errors.Malformed) gives x rest f = none_some rest (sym gives ∙ custom_again 0 bytes rest x f)
 custom_only bytes view (Err errors.NoMemory) gives x rest f = tt

@@ -12,3 +12,6 @@ pub mod Loops
 pub mod Trees
 pub mod Runs
 pub mod Cuts
+pub mod Filling
+pub mod Whole
+pub mod Decided
