@@ -26,7 +26,7 @@ leaf_reads {S} {B} what f = record {
   again = λ s after front rest leaf p. rw (p.0, p.1) refl;
 }
 
-tagged_reads : {S T B : Type 0} (tag : ℕ) (P : Form T) (f : Making S T B) (read : Reader S B) → Reads P f read → Reads (Tagged tag P) f (tagged tag read)
+pub tagged_reads : {S T B : Type 0} (tag : ℕ) (P : Form T) (f : Making S T B) (read : Reader S B) → Reads P f read → Reads (Tagged tag P) f (tagged tag read)
 tagged_reads tag P f read r = by_first_reads _ _ _ (λ b. when_reads (eqb b tag) _ _ _ _ _ r (never_reads _))
 
 u32s : Reads {S = Built} IsU32 make_same (same_in u32_at)

@@ -4,9 +4,9 @@ use Rattle.std.proofs.lemmas.Bool.{eqb-true}
 use Rattle.std.proofs.lemmas.List.{append-nil, nil_from_length}
 use Rattle.wasm_grammar.specs.Forms.{Form, Nothing, Both, Made, Items, ByFirst, When, Never}
 use Rattle.wasm_grammar.specs.Leb128.{IsU32}
-use Rattle.wasm_grammar.specs.Binary.{IsVector, IsSized}
+use Rattle.wasm_grammar.specs.Binary.{IsVector, IsSized, ByNumber}
 use Rattle.wasm_grammar.specs.Reading.{◌>>=◌, u32_at, part_at}
-use Rattle.wasm_grammar.specs.Threads.{Making, make_same, make_both, make_each, make_of, Reader, same_in, nothing_in, never_in, both_in, of_in, by_first, when, items_in, vector_in, Whole, at_end, whole_in, both_whole, of_whole, sized_in}
+use Rattle.wasm_grammar.specs.Threads.{Making, make_same, make_both, make_each, make_of, make_after, Reader, same_in, nothing_in, never_in, both_in, of_in, after_in, by_number, by_first, when, items_in, vector_in, Whole, at_end, whole_in, both_whole, of_whole, sized_in}
 use Rattle.wasm_grammar.proofs.Steps.{bind_some, guard_is, some_is}
 use Rattle.wasm_grammar.proofs.Integers.{ReadsPlain, u32_reads}
 use Rattle.wasm_grammar.proofs.Sizes.{part_takes, part_again}
@@ -82,6 +82,29 @@ of_reads {S} {T} {B} {C} h P f read r = record {
   again = λ s after front rest t p. rw (r.again s after front rest t p) refl;
 }
 
+pub after_reads : {S T B C : Type 0} (g : B → S → C × S) (P : Form T) (f : Making S T B) (read : Reader S B) → Reads P f read → Reads P (make_after g f) (after_in g read)
+after_reads {S} {T} {B} {C} g P f read r = record {
+  takes = λ s after bytes x e.
+      let a = bind_some (read s after bytes) (λ x. Some (g x.0.0 x.0.1, x.1)) x e in
+      let t = r.takes s after bytes a.0 a.1 in
+      subst (λ (y : (C × S) × List ℕ). Took P (make_after g f) s after bytes y) (some_is _ _ a.2)
+      (record { tree = t.tree; front = t.front; parts = t.parts; is_form = t.is_form; made = ap (λ (z : B × S). g z.0 z.1) t.made });
+  again = λ s after front rest t p. rw (r.again s after front rest t p) refl;
+}
+
+-- makings that make the same of each tree
+pub remade_reads : {S T B : Type 0} (P : Form T) (f g : Making S T B) (read : Reader S B) → ((t : T) (s : S) → f t s ≡ g t s) → Reads P f read → Reads P g read
+remade_reads P f g read same r = record {
+  takes = λ s after bytes x e.
+      let t = r.takes s after bytes x e in
+      record { tree = t.tree; front = t.front; parts = t.parts; is_form = t.is_form; made = t.made ∙ same t.tree s };
+  again = λ s after front rest t p. r.again s after front rest t p ∙ rw (same t s) refl;
+}
+
+pub each_same : {S T : Type 0} (ts : List T) (s : S) → make_each make_same ts s ≡ (ts, s)
+each_same [] s = refl
+each_same (t ∷ ts) s = rw (each_same ts s) refl
+
 -- a tree that is made of another one
 pub made_reads : {S T U B : Type 0} (g : U → T) (P : Form U) (f : Making S T B) (read : Reader S B) → Reads P (λ u. f (g u)) read → Reads (Made g P) f read
 made_reads g P f read r = record {
@@ -93,16 +116,16 @@ made_reads g P f read r = record {
 
 -- ---- one part after the other
 
-joined : (P : ℕ → List ℕ → Type 0) (after : ℕ) (bytes mid rest a b : List ℕ) → bytes ≡ a ++ mid → mid ≡ b ++ rest → P (after + length mid) a → (bytes ≡ (a ++ b) ++ rest) × P (after + length rest + length b) a
+pub joined : (P : ℕ → List ℕ → Type 0) (after : ℕ) (bytes mid rest a b : List ℕ) → bytes ≡ a ++ mid → mid ≡ b ++ rest → P (after + length mid) a → (bytes ≡ (a ++ b) ++ rest) × P (after + length rest + length b) a
 joined P after bytes mid rest a b e g p =
     let long : after + length mid ≡ after + length rest + length b = omega (arith, ap length g ∙ length-append b rest) in
     (e ∙ ap (λ (w : List ℕ). a ++ w) g ∙ sym (append_assoc a b rest), subst (λ (k : ℕ). P k a) long p)
 
-record Parted (P : ℕ → List ℕ → Type 0) (after : ℕ) (front rest a b : List ℕ) : Type 0 where
+pub record Parted (P : ℕ → List ℕ → Type 0) (after : ℕ) (front rest a b : List ℕ) : Type 0 where
   pub whole_is : front ++ rest ≡ a ++ (b ++ rest)
   pub first : P (after + length (b ++ rest)) a
 
-parted : (P : ℕ → List ℕ → Type 0) (after : ℕ) (front rest a b : List ℕ) → front ≡ a ++ b → P (after + length rest + length b) a → Parted P after front rest a b
+pub parted : (P : ℕ → List ℕ → Type 0) (after : ℕ) (front rest a b : List ℕ) → front ≡ a ++ b → P (after + length rest + length b) a → Parted P after front rest a b
 parted P after front rest a b e p =
     let long : after + length rest + length b ≡ after + length (b ++ rest) = omega (arith, length-append b rest) in
     record { whole_is = ap (λ (w : List ℕ). w ++ rest) e ∙ append_assoc a b rest; first = subst (λ (k : ℕ). P k a) long p }
@@ -124,6 +147,25 @@ both_reads {S} {T} {U} {B} {C} P Q f g read more r q = record {
       let one = r.again s after p.front (p.back ++ rest) t.0 d.first in
       let two = q.again (f t.0 s).1 after p.back rest t.1 p.second in
       rw (d.whole_is, one, two) refl;
+}
+
+-- a number, and what it chooses
+pub by_number_reads : {S T B : Type 0} (K : (left number : ℕ) → Form T) (f : Making S T B) (k : (left number : ℕ) → Reader S B) → ((left number : ℕ) → Reads (K left number) f (k left number)) → Reads (ByNumber K) f (by_number k)
+by_number_reads {S} {T} {B} K f k r = record {
+  takes = λ s after bytes x e.
+      let a = bind_some (u32_at bytes) (λ n. k (after + length bytes) n.0 s after n.1) x e in
+      let t = u32_reads.takes after bytes a.0 a.1 in
+      let u = (r (after + length bytes) a.0.0).takes s after a.0.1 x a.2 in
+      let j = joined (λ l w. IsU32 l w a.0.0) after bytes a.0.1 x.1 t.front u.front t.parts u.parts t.is_form in
+      let long : after + length bytes ≡ after + length x.1 + length (t.front ++ u.front) = omega (arith, ap length j.0, length-append (t.front ++ u.front) x.1) in
+      record { tree = u.tree; front = t.front ++ u.front; parts = j.0; is_form = record { front = t.front; back = u.front; parts = refl; number = a.0.0; is_number = j.1; chosen = subst (λ (l : ℕ). K l a.0.0 (after + length x.1) u.front u.tree) long u.is_form }; made = u.made };
+  again = λ s after front rest t p.
+      let d = parted (λ l w. IsU32 l w p.number) after front rest p.front p.back p.parts p.is_number in
+      let long : after + length rest + length front ≡ after + length (front ++ rest) = omega (arith, length-append front rest) in
+      let is : K (after + length (front ++ rest)) p.number (after + length rest) p.back t = subst (λ (l : ℕ). K l p.number (after + length rest) p.back t) long p.chosen in
+      let one = (r (after + length (front ++ rest)) p.number).again s after p.back rest t is in
+      let two : u32_at (front ++ rest) ≡ Some (p.number, p.back ++ rest) = ap u32_at d.whole_is ∙ u32_reads.again after p.front (p.back ++ rest) p.number d.first in
+      rw two one;
 }
 
 module _ {S T B : Type 0} (P : Form T) (f : Making S T B) (read : Reader S B) (r : Reads P f read) where

@@ -20,6 +20,15 @@ pub record IsSized {A : Type 0} (P : Form A) (after : ℕ) (bytes : List ℕ) (x
   pub size : IsU32 (after + length back) front (length back)
   pub body : P after back x
 
+-- what a number chooses, which is told how many bytes of the file the number begins
+pub record ByNumber {A : Type 0} (K : (left number : ℕ) → Form A) (after : ℕ) (bytes : List ℕ) (x : A) : Type 0 where
+  pub front : List ℕ
+  pub back : List ℕ
+  pub parts : bytes ≡ front ++ back
+  pub number : ℕ
+  pub is_number : IsU32 (after + length back) front number
+  pub chosen : K (after + length bytes) number after back x
+
 -- bytes that are told by their number
 abbrev pub IsBytes : Form (List ℕ)
 IsBytes = IsSized Any

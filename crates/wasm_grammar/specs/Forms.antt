@@ -9,6 +9,10 @@ Form A = ℕ → List ℕ → A → Type 0
 abbrev pub Any : Form (List ℕ)
 Any after bytes x = x ≡ bytes
 
+-- so many bytes, which spell themselves
+abbrev pub Run : ℕ → Form (List ℕ)
+Run n after bytes x = (length bytes ≡ n) × (x ≡ bytes)
+
 -- no bytes, which spell one value
 abbrev pub Nothing : {A : Type 0} → A → Form A
 Nothing a after bytes x = (bytes ≡ []) × (x ≡ a)

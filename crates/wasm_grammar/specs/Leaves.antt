@@ -1,7 +1,8 @@
 -- Foreign leaves: types and instructions of the standard that the profile leaves out. They are spelled in a module like all others,
 -- and of them only the first is told.
-use Rattle.std.specs.Prelude.{◌≡◌, ℕ, ◌+◌, [], length, Option, Some, None}
+use Rattle.std.specs.Prelude.{◌≡◌, ℕ, ◌+◌, List, [], length, Option, Some, None}
 use Rattle.wasm_grammar.specs.Forms.{Form}
+use Rattle.wasm_grammar.specs.Reading.{◌>>=◌}
 use Rattle.wasm_grammar.specs.Threads.{Reader}
 use Rattle.wasm_grammar.specs.declared.built.Foreign.{Foreign}
 use Rattle.wasm_grammar.specs.declared.built.Leaf.{Leaf}
@@ -24,3 +25,12 @@ IsLeaf what after bytes leaf = (bytes ≡ []) × (leaf ≡ leaf_before after wha
 
 abbrev pub leaf_in : {S B : Type 0} → Foreign → (Leaf → S → B × S) → Reader S B
 leaf_in what f s after bytes = Some (f (leaf_before (after + length bytes) what) s, bytes)
+
+-- a leaf behind whose first byte a form stands
+pub record Leafed {A : Type 0} (what : Foreign) (P : Form A) (after : ℕ) (bytes : List ℕ) (leaf : Leaf) : Type 0 where
+  pub is_leaf : leaf ≡ leaf_before (after + length bytes) what
+  pub behind : A
+  pub is_behind : P after bytes behind
+
+abbrev pub leafed_in : {S A B : Type 0} → Foreign → (Leaf → S → B × S) → (List ℕ → Option (A × List ℕ)) → Reader S B
+leafed_in what f read s after bytes = read bytes >>= λ x. Some (f (leaf_before (after + length bytes) what) s, x.1)

@@ -6,5 +6,6 @@ pub mod Reading
 pub mod Threads
 pub mod Leaves
 pub mod Types
+pub mod Opcodes
 pub mod Instructions
 pub mod Entries

@@ -47,3 +47,7 @@ name_at bytes = part_at bytes >>= λ x. if is_utf8 x.0 then Some x else None
 -- what stands behind a sized part that begins with a name
 abbrev pub custom_at : List ℕ → Option (List ℕ)
 custom_at bytes = part_at bytes >>= λ x. name_at x.0 >>= λ name. Some x.1
+
+-- so many bytes
+abbrev pub run_at : ℕ → List ℕ → Option (List ℕ × List ℕ)
+run_at n bytes = if nat_lt (length bytes) n then None else Some (take n bytes, drop n bytes)

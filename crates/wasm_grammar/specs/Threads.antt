@@ -20,6 +20,10 @@ make_each f (t ∷ ts) s = let x = f t s in let xs = make_each f ts x.1 in (x.0 
 abbrev pub make_of : {S T B C : Type 0} → (B → C) → Making S T B → Making S T C
 make_of h f t s = let x = f t s in (h x.0, x.1)
 
+-- what is made of a value that was made
+abbrev pub make_after : {S T B C : Type 0} → (B → S → C × S) → Making S T B → Making S T C
+make_after g f t s = let x = f t s in g x.0 x.1
+
 -- ---- a part, which stands before others
 
 abbrev pub Reader : Type 0 → Type 0 → Type 0
@@ -41,6 +45,12 @@ both_in read more s after bytes = read s after bytes >>= λ x. more x.0.1 after 
 
 abbrev pub of_in : {S B C : Type 0} → (B → C) → Reader S B → Reader S C
 of_in h read s after bytes = read s after bytes >>= λ x. Some ((h x.0.0, x.0.1), x.1)
+
+abbrev pub after_in : {S B C : Type 0} → (B → S → C × S) → Reader S B → Reader S C
+after_in g read s after bytes = read s after bytes >>= λ x. Some (g x.0.0 x.0.1, x.1)
+
+abbrev pub by_number : {S B : Type 0} → ((left number : ℕ) → Reader S B) → Reader S B
+by_number k s after bytes = u32_at bytes >>= λ n. k (after + length bytes) n.0 s after n.1
 
 abbrev pub by_first : {S B : Type 0} → (ℕ → Reader S B) → Reader S B
 by_first k s after [] = None

@@ -20,11 +20,13 @@ pub struct Leaf {
     pub what: Foreign,
 }
 
-/// The blocks that have ended, by their numbers, and the first foreign leaf.
+/// The blocks that have ended, by their numbers, the first foreign leaf, and whether an instruction of a function's code names a
+/// data segment.
 #[derive(Debug, Drop)]
 pub struct Built {
     pub blocks: Items<Items<Instr>>,
     pub first: Option<Leaf>,
+    pub data_used: bool,
 }
 
 /// Notes a leaf, where it is the first one.
