@@ -92,6 +92,19 @@ after_reads {S} {T} {B} {C} g P f read r = record {
   again = λ s after front rest t p. rw (r.again s after front rest t p) refl;
 }
 
+-- makings that make the same of each tree
+pub remade_reads : {S T B : Type 0} (P : Form T) (f g : Making S T B) (read : Reader S B) → ((t : T) (s : S) → f t s ≡ g t s) → Reads P f read → Reads P g read
+remade_reads P f g read same r = record {
+  takes = λ s after bytes x e.
+      let t = r.takes s after bytes x e in
+      record { tree = t.tree; front = t.front; parts = t.parts; is_form = t.is_form; made = t.made ∙ same t.tree s };
+  again = λ s after front rest t p. r.again s after front rest t p ∙ rw (same t s) refl;
+}
+
+pub each_same : {S T : Type 0} (ts : List T) (s : S) → make_each make_same ts s ≡ (ts, s)
+each_same [] s = refl
+each_same (t ∷ ts) s = rw (each_same ts s) refl
+
 -- a tree that is made of another one
 pub made_reads : {S T U B : Type 0} (g : U → T) (P : Form U) (f : Making S T B) (read : Reader S B) → Reads P (λ u. f (g u)) read → Reads (Made g P) f read
 made_reads g P f read r = record {

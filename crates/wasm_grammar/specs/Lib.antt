@@ -7,6 +7,7 @@ pub mod Threads
 pub mod Choices
 pub mod Leaves
 pub mod Types
+pub mod Opcodes
 pub mod Instructions
 pub mod Entries
 pub mod Code

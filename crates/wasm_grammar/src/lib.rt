@@ -20,9 +20,8 @@ pub use decode::{DecodeError, decodes_once};
 pub use built::{Built, Foreign, Leaf};
 pub use entries::{export_of, import_of};
 pub use fault::ReadError;
-pub use opcodes::token_of;
 pub use spelled::{read_bytes, read_name, read_s32, read_s33, read_s64, read_u32, skip_custom};
-pub use tokens::Token;
+pub use tokens::{Token, token_of};
 pub use types::global_type_of;
 pub use vectors::{Item, sized_vector_of, vector_of};
 

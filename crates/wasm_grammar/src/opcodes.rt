@@ -1,174 +1,165 @@
-//! Tokens of instructions (WebAssembly Core 2.0, section 5.4).
+//! The opcodes of instructions with no immediate or with the place of an access (WebAssembly Core 2.0, sections 5.4.6 and 5.4.7), a
+//! function a row of opcodes. Each answers for the last of its row where the opcode is no other of the row.
 
-ghost use Rattle.std.specs.Prelude.{◌≡◌, ◌≤◌, ◌<◌, ◌+◌, ◌^◌, IfOk, length};
-ghost use Rattle.wasm_grammar.specs.Answers.{Gives};
-ghost use Rattle.wasm_grammar.specs.Instructions.{block_type_in, control_in, variable_in, numeric_in, token_in};
+ghost use Rattle.std.specs.Prelude.{◌≡◌};
+ghost use Rattle.wasm_grammar.specs.Opcodes as table;
 
-use crate::built::Built;
-use crate::fault::ReadError;
-use crate::numbers::{s32_of, s33_of, s64_of, u32_of};
-use crate::tokens::Token;
-use crate::types::val_type_of;
-use std::alloc::Global;
-use wasm_syntax::{BlockType, Instr};
+use wasm_syntax::{Instr, MemArg};
 
-/// The block type at the front.
-#[tactic(auto, unfolding(crate::specs::Instructions::block_type_in))]
-fn block_type_of<'a>(
-    built: &mut Built,
-    after: u64,
-    bytes: &'a [u8],
-) -> Result<(BlockType, &'a [u8]), ReadError>
-    requires { after + length bytes.now < 2 ^ 64 }
-    ensures shorter { IfOk result (λ x. length x.1.now ≤ length bytes.now) }
-    ensures gives { Gives (λ x. ((x.0, built.new), x.1.now)) result (block_type_in built.old after bytes.now) }
+/// Whether a floating number is moved by an access of a memory.
+pub fn is_float_access(op: u8) -> bool
+    ensures { result ≡ table.is_float_access op }
 {
-    match bytes {
-        [] => Err(ReadError::Malformed),
-        [0x40, rest @ ..] => Ok((BlockType::Empty, rest)),
-        [0x41..=0x7F, ..] => {
-            let (val, rest) = val_type_of(built, after, bytes)?;
-            Ok((BlockType::One(val), rest))
-        }
-        _ => {
-            let (index, rest) = s33_of(bytes)?;
-            Ok((BlockType::Index(index), rest))
-        }
-    }
+    op == 0x2A || op == 0x2B || op == 0x38 || op == 0x39
 }
 
-/// A control instruction, whose opcode was read.
-#[tactic(auto, unfolding(crate::specs::Instructions::control_in))]
-fn control_of<'a>(
-    op: u8,
-    built: &mut Built,
-    after: u64,
-    bytes: &'a [u8],
-) -> Result<(Token, &'a [u8]), ReadError>
-    requires { after + length bytes.now < 2 ^ 64 }
-    ensures shorter { IfOk result (λ x. length x.1.now ≤ length bytes.now) }
-    ensures gives { Gives (λ x. ((x.0, built.new), x.1.now)) result (control_in op built.old after bytes.now) }
+/// 28, 29 and 2C to 35.
+pub fn load(op: u8, arg: MemArg) -> Instr
+    ensures { result ≡ table.load op arg }
 {
     match op {
-        0x00 => Ok((Token::Plain(Instr::Unreachable), bytes)),
-        0x01 => Ok((Token::Plain(Instr::Nop), bytes)),
-        0x02 => {
-            let (block_type, rest) = block_type_of(built, after, bytes)?;
-            Ok((Token::Block(block_type), rest))
-        }
-        0x03 => {
-            let (block_type, rest) = block_type_of(built, after, bytes)?;
-            Ok((Token::Loop(block_type), rest))
-        }
-        0x04 => {
-            let (block_type, rest) = block_type_of(built, after, bytes)?;
-            Ok((Token::If(block_type), rest))
-        }
-        0x05 => Ok((Token::Else, bytes)),
-        0x0B => Ok((Token::End, bytes)),
-        0x0C => {
-            let (value, rest) = u32_of(bytes)?;
-            Ok((Token::Plain(Instr::Br(value)), rest))
-        }
-        0x0D => {
-            let (value, rest) = u32_of(bytes)?;
-            Ok((Token::Plain(Instr::BrIf(value)), rest))
-        }
-        0x0F => Ok((Token::Plain(Instr::Return), bytes)),
-        0x10 => {
-            let (value, rest) = u32_of(bytes)?;
-            Ok((Token::Plain(Instr::Call(value)), rest))
-        }
-        _ => Err(ReadError::Malformed),
+        0x28 => Instr::I32Load(arg),
+        0x29 => Instr::I64Load(arg),
+        0x2C => Instr::I32Load8S(arg),
+        0x2D => Instr::I32Load8U(arg),
+        0x2E => Instr::I32Load16S(arg),
+        0x2F => Instr::I32Load16U(arg),
+        0x30 => Instr::I64Load8S(arg),
+        0x31 => Instr::I64Load8U(arg),
+        0x32 => Instr::I64Load16S(arg),
+        0x33 => Instr::I64Load16U(arg),
+        0x34 => Instr::I64Load32S(arg),
+        _ => Instr::I64Load32U(arg),
     }
 }
 
-/// A parametric or variable instruction, whose opcode was read.
-#[tactic(auto, unfolding(crate::specs::Instructions::variable_in))]
-fn variable_of<'a>(
-    op: u8,
-    built: &mut Built,
-    after: u64,
-    bytes: &'a [u8],
-) -> Result<(Token, &'a [u8]), ReadError>
-    requires { after + length bytes.now < 2 ^ 64 }
-    ensures shorter { IfOk result (λ x. length x.1.now ≤ length bytes.now) }
-    ensures gives { Gives (λ x. ((x.0, built.new), x.1.now)) result (variable_in op built.old after bytes.now) }
+/// 36, 37 and 3A to 3E.
+pub fn store(op: u8, arg: MemArg) -> Instr
+    ensures { result ≡ table.store op arg }
 {
     match op {
-        0x1A => Ok((Token::Plain(Instr::Drop), bytes)),
-        0x1B => Ok((Token::Plain(Instr::Select), bytes)),
-        0x20 => {
-            let (value, rest) = u32_of(bytes)?;
-            Ok((Token::Plain(Instr::LocalGet(value)), rest))
-        }
-        0x21 => {
-            let (value, rest) = u32_of(bytes)?;
-            Ok((Token::Plain(Instr::LocalSet(value)), rest))
-        }
-        0x22 => {
-            let (value, rest) = u32_of(bytes)?;
-            Ok((Token::Plain(Instr::LocalTee(value)), rest))
-        }
-        0x23 => {
-            let (value, rest) = u32_of(bytes)?;
-            Ok((Token::Plain(Instr::GlobalGet(value)), rest))
-        }
-        0x24 => {
-            let (value, rest) = u32_of(bytes)?;
-            Ok((Token::Plain(Instr::GlobalSet(value)), rest))
-        }
-        _ => Err(ReadError::Malformed),
+        0x36 => Instr::I32Store(arg),
+        0x37 => Instr::I64Store(arg),
+        0x3A => Instr::I32Store8(arg),
+        0x3B => Instr::I32Store16(arg),
+        0x3C => Instr::I64Store8(arg),
+        0x3D => Instr::I64Store16(arg),
+        _ => Instr::I64Store32(arg),
     }
 }
 
-/// A numeric instruction, whose opcode was read.
-#[tactic(auto, unfolding(crate::specs::Instructions::numeric_in))]
-fn numeric_of<'a>(
-    op: u8,
-    built: &mut Built,
-    after: u64,
-    bytes: &'a [u8],
-) -> Result<(Token, &'a [u8]), ReadError>
-    requires { after + length bytes.now < 2 ^ 64 }
-    ensures shorter { IfOk result (λ x. length x.1.now ≤ length bytes.now) }
-    ensures gives { Gives (λ x. ((x.0, built.new), x.1.now)) result (numeric_in op built.old after bytes.now) }
+/// 45 to 4F.
+pub fn i32_test(op: u8) -> Instr
+    ensures { result ≡ table.i32_test op }
 {
     match op {
-        0x41 => {
-            let (value, rest) = s32_of(bytes)?;
-            Ok((Token::Plain(Instr::I32Const(value)), rest))
-        }
-        0x42 => {
-            let (value, rest) = s64_of(bytes)?;
-            Ok((Token::Plain(Instr::I64Const(value)), rest))
-        }
-        0x6A => Ok((Token::Plain(Instr::I32Add), bytes)),
-        _ => Err(ReadError::Malformed),
+        0x45 => Instr::I32Eqz,
+        0x46 => Instr::I32Eq,
+        0x47 => Instr::I32Ne,
+        0x48 => Instr::I32LtS,
+        0x49 => Instr::I32LtU,
+        0x4A => Instr::I32GtS,
+        0x4B => Instr::I32GtU,
+        0x4C => Instr::I32LeS,
+        0x4D => Instr::I32LeU,
+        0x4E => Instr::I32GeS,
+        _ => Instr::I32GeU,
     }
 }
 
-/// The token at the front.
-#[tactic(auto, unfolding(crate::specs::Instructions::token_in))]
-pub fn token_of<'a>(
-    _alloc: Global,
-    entry: bool,
-    built: &mut Built,
-    after: u64,
-    bytes: &'a [u8],
-) -> Result<(Token, &'a [u8]), ReadError>
-    requires { after + length bytes.now < 2 ^ 64 }
-    ensures shorter { IfOk result (λ x. length x.1.now ≤ length bytes.now) }
-    ensures gives { Gives (λ x. ((x.0, built.new), x.1.now)) result (token_in entry built.old after bytes.now) }
+/// 50 to 5A.
+pub fn i64_test(op: u8) -> Instr
+    ensures { result ≡ table.i64_test op }
 {
-    let [op, rest @ ..] = bytes else {
-        return Err(ReadError::Malformed);
-    };
-    if *op < 0x1A {
-        return control_of(*op, built, after, rest);
+    match op {
+        0x50 => Instr::I64Eqz,
+        0x51 => Instr::I64Eq,
+        0x52 => Instr::I64Ne,
+        0x53 => Instr::I64LtS,
+        0x54 => Instr::I64LtU,
+        0x55 => Instr::I64GtS,
+        0x56 => Instr::I64GtU,
+        0x57 => Instr::I64LeS,
+        0x58 => Instr::I64LeU,
+        0x59 => Instr::I64GeS,
+        _ => Instr::I64GeU,
     }
-    if *op < 0x41 {
-        return variable_of(*op, built, after, rest);
+}
+
+/// 67 to 70.
+pub fn i32_arithmetic(op: u8) -> Instr
+    ensures { result ≡ table.i32_arithmetic op }
+{
+    match op {
+        0x67 => Instr::I32Clz,
+        0x68 => Instr::I32Ctz,
+        0x69 => Instr::I32Popcnt,
+        0x6A => Instr::I32Add,
+        0x6B => Instr::I32Sub,
+        0x6C => Instr::I32Mul,
+        0x6D => Instr::I32DivS,
+        0x6E => Instr::I32DivU,
+        0x6F => Instr::I32RemS,
+        _ => Instr::I32RemU,
     }
-    numeric_of(*op, built, after, rest)
+}
+
+/// 71 to 78.
+pub fn i32_bitwise(op: u8) -> Instr
+    ensures { result ≡ table.i32_bitwise op }
+{
+    match op {
+        0x71 => Instr::I32And,
+        0x72 => Instr::I32Or,
+        0x73 => Instr::I32Xor,
+        0x74 => Instr::I32Shl,
+        0x75 => Instr::I32ShrS,
+        0x76 => Instr::I32ShrU,
+        0x77 => Instr::I32Rotl,
+        _ => Instr::I32Rotr,
+    }
+}
+
+/// 79 to 82.
+pub fn i64_arithmetic(op: u8) -> Instr
+    ensures { result ≡ table.i64_arithmetic op }
+{
+    match op {
+        0x79 => Instr::I64Clz,
+        0x7A => Instr::I64Ctz,
+        0x7B => Instr::I64Popcnt,
+        0x7C => Instr::I64Add,
+        0x7D => Instr::I64Sub,
+        0x7E => Instr::I64Mul,
+        0x7F => Instr::I64DivS,
+        0x80 => Instr::I64DivU,
+        0x81 => Instr::I64RemS,
+        _ => Instr::I64RemU,
+    }
+}
+
+/// 83 to 8A.
+pub fn i64_bitwise(op: u8) -> Instr
+    ensures { result ≡ table.i64_bitwise op }
+{
+    match op {
+        0x83 => Instr::I64And,
+        0x84 => Instr::I64Or,
+        0x85 => Instr::I64Xor,
+        0x86 => Instr::I64Shl,
+        0x87 => Instr::I64ShrS,
+        0x88 => Instr::I64ShrU,
+        0x89 => Instr::I64Rotl,
+        _ => Instr::I64Rotr,
+    }
+}
+
+/// Whether an opcode is that of a floating instruction with no immediate.
+pub fn is_float(op: u8) -> bool
+    ensures { result ≡ table.is_float op }
+{
+    (0x5B <= op && op <= 0x66)
+        || (0x8B <= op && op <= 0xA6)
+        || (0xA8 <= op && op <= 0xAB)
+        || (0xAE <= op && op <= 0xBF)
 }

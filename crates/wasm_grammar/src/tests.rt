@@ -141,16 +141,16 @@ fn imports_and_exports(rt: HostRuntime) -> Result<(), Fail> {
 #[test]
 fn tokens_of_instructions(rt: HostRuntime) -> Result<(), Fail> {
     let mut built = nothing_built(rt.alloc());
-    let (token, rest) = token_of(rt.alloc(), false, &mut built, 0, &[0x22, 0x81, 0x00, 0x0B])?;
+    let (token, rest) = token_of(rt.alloc(), true, &mut built, 0, &[0x22, 0x81, 0x00, 0x0B])?;
     assert!(rt; matches!(token, Token::Plain(Instr::LocalTee(1))));
     assert_eq!(rt; rest, [0x0B].as_slice());
-    let (token, _) = token_of(rt.alloc(), false, &mut built, 0, &[0x41, 0x7F])?;
+    let (token, _) = token_of(rt.alloc(), true, &mut built, 0, &[0x41, 0x7F])?;
     assert!(rt; matches!(token, Token::Plain(Instr::I32Const(0xFFFF_FFFF))));
-    let (token, _) = token_of(rt.alloc(), false, &mut built, 0, &[0x04, 0x40])?;
+    let (token, _) = token_of(rt.alloc(), true, &mut built, 0, &[0x04, 0x40])?;
     assert!(rt; matches!(token, Token::If(BlockType::Empty)));
-    let (token, _) = token_of(rt.alloc(), false, &mut built, 0, &[0x02, 0x85, 0x00])?;
+    let (token, _) = token_of(rt.alloc(), true, &mut built, 0, &[0x02, 0x85, 0x00])?;
     assert!(rt; matches!(token, Token::Block(BlockType::Index(5))));
-    let (token, _) = token_of(rt.alloc(), false, &mut built, 4, &[0x03, 0x7B])?;
+    let (token, _) = token_of(rt.alloc(), true, &mut built, 4, &[0x03, 0x7B])?;
     assert!(rt; matches!(token, Token::Loop(BlockType::One(_))));
     assert_eq!(rt;
         built.first,
@@ -159,7 +159,7 @@ fn tokens_of_instructions(rt: HostRuntime) -> Result<(), Fail> {
             what: crate::Foreign::Simd
         })
     );
-    assert!(rt; token_of(rt.alloc(), false, &mut built, 0, &[0x02, 0x41]).is_err());
-    assert!(rt; token_of(rt.alloc(), false, &mut built, 0, &[0x06]).is_err());
+    assert!(rt; token_of(rt.alloc(), true, &mut built, 0, &[0x02, 0x41]).is_err());
+    assert!(rt; token_of(rt.alloc(), true, &mut built, 0, &[0x06]).is_err());
     Ok(())
 }
