@@ -104,6 +104,16 @@ filling read = sized_in (whole_in (vector_in read))
 abbrev pub number_in : Reader Built ℕ
 number_in = sized_in (whole_in (same_in u32_at))
 
+abbrev pub later_in : ℕ → Reader Built Held
+later_in id =
+    when (id == 7) (of_in h.Exports (filling export_in)) (
+    when (id == 8) (of_in h.Start number_in) (
+    when (id == 9) (of_in h.Elems (filling elem_in)) (
+    when (id == 10) (of_in h.Codes (filling entry_in)) (
+    when (id == 11) (of_in h.Datas (filling data_in)) (
+    when (id == 12) (of_in h.DataCount number_in) (
+    never_in))))))
+
 unfoldable pub section_in : Reader Built Held
 section_in = by_first (λ id.
     when (id == 0) custom_in (
@@ -113,13 +123,7 @@ section_in = by_first (λ id.
     when (id == 4) (of_in h.Tables (filling table_type_in)) (
     when (id == 5) (of_in h.Mems (filling limits_in)) (
     when (id == 6) (of_in h.Globals (filling global_in)) (
-    when (id == 7) (of_in h.Exports (filling export_in)) (
-    when (id == 8) (of_in h.Start number_in) (
-    when (id == 9) (of_in h.Elems (filling elem_in)) (
-    when (id == 10) (of_in h.Codes (filling entry_in)) (
-    when (id == 11) (of_in h.Datas (filling data_in)) (
-    when (id == 12) (of_in h.DataCount number_in) (
-    never_in))))))))))))))
+    later_in id))))))))
 
 abbrev pub held_place : Held → ℕ
 held_place h.Nothing = 0
