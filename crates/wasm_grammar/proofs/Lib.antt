@@ -15,3 +15,6 @@ pub mod Cuts
 pub mod Filling
 pub mod Whole
 pub mod Decided
+pub mod Passing
+pub mod Following
+pub mod Joining

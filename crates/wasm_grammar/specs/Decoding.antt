@@ -4,8 +4,8 @@ use Rattle.wasm_syntax.specs.declared.module.Module.{Module}
 use Rattle.wasm_grammar.specs.declared.built.Foreign.{Foreign}
 use Rattle.wasm_grammar.specs.declared.built.Leaf.{Leaf}
 use Rattle.wasm_grammar.specs.declared.built.Built.{Built}
-use Rattle.wasm_grammar.specs.declared.decode.DecodeError.{DecodeError}
-use Rattle.wasm_grammar.specs.declared.decode.DecodeError.TheVariants as errors
+use Rattle.wasm_grammar.specs.declared.decoder.DecodeError.{DecodeError}
+use Rattle.wasm_grammar.specs.declared.decoder.DecodeError.TheVariants as errors
 use Rattle.wasm_grammar.specs.declared.held.Parts.{Parts}
 use Rattle.wasm_grammar.specs.Module.{ModuleTree, Spells, module_with, module_of, first_leaf}
 

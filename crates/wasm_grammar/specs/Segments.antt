@@ -85,6 +85,9 @@ func_ref_in s after bytes = u32_at bytes >>= λ n. Some (make_func_ref n.0 s, n.
 abbrev pub funcs_in : Reader Built (ValType × List BlockId)
 funcs_in = of_in (of_type v.FuncRef) (vector_in func_ref_in)
 
+abbrev pub kind_in : Reader Built (ValType × List BlockId)
+kind_in = tagged 0 funcs_in
+
 abbrev pub func_exprs_in : Reader Built (ValType × List BlockId)
 func_exprs_in = of_in (of_type v.FuncRef) (vector_in (expression_in false))
 
@@ -117,9 +120,9 @@ make_elem = make_of elem_of (make_both make_mode make_refs)
 abbrev pub elem_in : Reader Built Elem
 elem_in = of_in elem_of (by_number (λ left flag.
     when (flag == 0) (both_in first_in funcs_in) (
-    when (flag == 1) (both_in (nothing_in (make_mode passive)) (tagged 0 funcs_in)) (
-    when (flag == 2) (both_in indexed_in (tagged 0 funcs_in)) (
-    when (flag == 3) (both_in (nothing_in (make_mode declared)) (tagged 0 funcs_in)) (
+    when (flag == 1) (both_in (nothing_in (make_mode passive)) kind_in) (
+    when (flag == 2) (both_in indexed_in kind_in) (
+    when (flag == 3) (both_in (nothing_in (make_mode declared)) kind_in) (
     when (flag == 4) (both_in first_in func_exprs_in) (
     when (flag == 5) (both_in (nothing_in (make_mode passive)) exprs_in) (
     when (flag == 6) (both_in indexed_in exprs_in) (
@@ -144,6 +147,9 @@ data_of x = record { bytes = x.1; mode = x.0 }
 
 abbrev pub make_data : Making Built DataTree Data
 make_data = make_of data_of (make_both make_mode make_same)
+
+abbrev pub data_at : Mode → List ℕ → Option (Data × List ℕ)
+data_at mode bytes = part_at bytes >>= λ x. Some (data_of (mode, x.0), x.1)
 
 abbrev pub data_in : Reader Built Data
 data_in = of_in data_of (by_number (λ left flag.

@@ -3,20 +3,24 @@
 
 mod blocks;
 mod built;
-mod decode;
+mod contents;
+mod decoder;
 mod entries;
+mod expressions;
 mod fault;
 mod functions;
 mod held;
 mod numbers;
 mod opcodes;
+mod ordered;
 mod parts;
+mod segments;
 mod spelled;
 mod tokens;
 mod types;
 mod vectors;
 
-pub use decode::{DecodeError, decodes_once};
+pub use decoder::{DecodeError, decode, decodes_once};
 pub use built::{Built, Foreign, Leaf};
 pub use entries::{export_of, import_of};
 pub use fault::ReadError;

@@ -1,0 +1,9 @@
+-- The items that were moved, and those that are left from the last one on, are all of them from the last one on.
+use Rattle.std.proofs.Common.{◌≡◌, ◌++◌, length, reverse}
+use Rattle.wasm_grammar.proofs.decoder.reversed.Given as goal
+
+abbrev pub invariant-loop-item : goal.invariant-loop-item
+invariant-loop-item g l = l.moved ++ reverse l.left ≡ reverse l.fn.items
+
+abbrev pub decreases-loop-item : goal.decreases-loop-item
+decreases-loop-item g l = length l.left
