@@ -43,7 +43,7 @@ module _ {S T B : Type 0} (test : T → Bool) (check : B → Bool) (P : Form T) 
         let t = r.takes s after bytes a.0 a.1 in
         let holds : test t.tree ≡ true = sym (agree t.tree s) ∙ ap (λ (y : B × S). check y.0) (sym t.made) ∙ g.0 in
         subst (λ (y : (B × S) × List ℕ). Took (Such test P) f s after bytes y) (some_is _ _ g.1)
-          (record { tree = t.tree; front = t.front; parts = t.parts; is_form = record { is_form = t.is_form; holds = holds }; made = t.made });
+        (record { tree = t.tree; front = t.front; parts = t.parts; is_form = record { is_form = t.is_form; holds = holds }; made = t.made });
     again = λ s after front rest t p.
         let one = r.again s after front rest t p.is_form in
         let two : check (f t s).0 ≡ true = agree t s ∙ p.holds in

@@ -50,21 +50,21 @@ no_fuel p last s (b ∷ bs) h = refl
 module _ (p : Parts) (count i last : ℕ) (s : Built) (bytes : List ℕ) (total : Option (Parts × Built)) (so_far : held_of p last (all_in section_in (count - i) s 0 bytes) ≡ total) where
   pub next_of : i < count → 0 < length bytes → (h : Held) (t : Built) (rest : List ℕ) → section_in s 0 bytes ≡ Some ((h, t), rest) → may_follow last (held_place h) ≡ true → held_of (hold p h) (last_of last (held_place h)) (all_in section_in (count - (i + 1)) t 0 rest) ≡ total
   next_of lt some h t rest e f = elim bytes as (λ (w : List ℕ). 0 < length w → held_of p last (all_in section_in (count - i) s 0 w) ≡ total → section_in s 0 w ≡ Some ((h, t), rest) → held_of (hold p h) (last_of last (held_place h)) (all_in section_in (count - (i + 1)) t 0 rest) ≡ total) [
-      | [] ↦ λ l g e. absurd (omega arith)
-      | b ∷ bs ↦ λ l g e. next_section p count i last s b bs total lt g h t rest e f
-    ] some so_far e
+    | [] ↦ λ l g e. absurd (omega arith)
+    | b ∷ bs ↦ λ l g e. next_section p count i last s b bs total lt g h t rest e f
+  ] some so_far e
 
   pub not_of : i < count → 0 < length bytes → (h : Held) (t : Built) (rest : List ℕ) → section_in s 0 bytes ≡ Some ((h, t), rest) → may_follow last (held_place h) ≡ false → total ≡ None
   not_of lt some h t rest e f = elim bytes as (λ (w : List ℕ). 0 < length w → held_of p last (all_in section_in (count - i) s 0 w) ≡ total → section_in s 0 w ≡ Some ((h, t), rest) → total ≡ None) [
-      | [] ↦ λ l g e. absurd (omega arith)
-      | b ∷ bs ↦ λ l g e. out_of_order p count i last s b bs total lt g h t rest e f
-    ] some so_far e
+    | [] ↦ λ l g e. absurd (omega arith)
+    | b ∷ bs ↦ λ l g e. out_of_order p count i last s b bs total lt g h t rest e f
+  ] some so_far e
 
   pub no_of : i < count → 0 < length bytes → (error : ReadError) → Refuses error (section_in s 0 bytes) → Refuses error total
   no_of lt some error e = elim bytes as (λ (w : List ℕ). 0 < length w → held_of p last (all_in section_in (count - i) s 0 w) ≡ total → Refuses error (section_in s 0 w) → Refuses error total) [
-      | [] ↦ λ l g e. absurd (omega arith)
-      | b ∷ bs ↦ λ l g e. no_section p count i last s b bs total lt g error e
-    ] some so_far e
+    | [] ↦ λ l g e. absurd (omega arith)
+    | b ∷ bs ↦ λ l g e. no_section p count i last s b bs total lt g error e
+  ] some so_far e
 
   pub all_of : length bytes ≡ 0 → total ≡ Some (p, s)
   unfolding all_in

@@ -114,7 +114,7 @@ cut_here true s after (b ∷ bs) x e h =
     let is : b ≡ 253 = eqb-true b 253 e in
     let left : after + length (b ∷ bs) ≡ after + length bs + 1 = omega arith in
     subst (λ (y : State × List ℕ). Cut true s after (b ∷ bs) y.0 y.1) h
-      (record { in_entry = refl; none_left = refl; front = []; back = bs; parts = ap (λ (k : ℕ). k ∷ bs) is; passed = []; items = refl; mid = s; goes_to = refl; goal_is = ap (λ (k : ℕ). cut_at k s.built) left })
+    (record { in_entry = refl; none_left = refl; front = []; back = bs; parts = ap (λ (k : ℕ). k ∷ bs) is; passed = []; items = refl; mid = s; goes_to = refl; goal_is = ap (λ (k : ℕ). cut_at k s.built) left })
 
 one_more_cut : (e : Bool) (s s' : State) (after : ℕ) (bytes : List ℕ) (x : (Token × Built) × List ℕ) (goal : State) (rest : List ℕ) → Took (IsToken e) (make_token e) s.built after bytes x → step (with_built s x.0.1) x.0.0 ≡ Some s' → Cut e s' after x.1 goal rest → Cut e s after bytes goal rest
 one_more_cut e s s' after bytes x goal rest t h r =

@@ -42,11 +42,7 @@ fn reversed<T: Drop>(alloc: Global, items: Items<T>) -> Result<Items<T>, AllocEr
 }
 
 /// Functions from their types and their code entries.
-fn joined(
-    alloc: Global,
-    types: &[u32],
-    codes: Items<CodeEntry>,
-) -> Result<Items<Func>, AllocError>
+fn joined(alloc: Global, types: &[u32], codes: Items<CodeEntry>) -> Result<Items<Func>, AllocError>
     ensures { IfOk result (λ x. x ≡ funcs_of types.now codes) }
 {
     let mut left = reversed(alloc, codes)?;
@@ -65,11 +61,7 @@ fn joined(
 }
 
 /// The module of these parts and blocks.
-fn assembled(
-    alloc: Global,
-    parts: Parts,
-    blocks: Items<Items<Instr>>,
-) -> Result<Module, AllocError>
+fn assembled(alloc: Global, parts: Parts, blocks: Items<Items<Instr>>) -> Result<Module, AllocError>
     ensures { IfOk result (λ m. m ≡ module_with parts blocks) }
 {
     let Parts {
@@ -141,5 +133,4 @@ pub fn decode(alloc: Global, bytes: &[u8]) -> Result<Module, DecodeError>
 pub fn decodes_once()
     ensures total { (bytes : List ℕ) → (d : Decoded) × Decodes bytes d }
     ensures once { (bytes : List ℕ) (d e : Decoded) → Decodes bytes d → Decodes bytes e → d ≡ e }
-{
-}
+{}

@@ -231,11 +231,7 @@ impl Item for Elem {
 }
 
 /// A data segment with the bytes at the front, which are copied.
-fn data_of<'a>(
-    alloc: Global,
-    mode: Mode,
-    bytes: &'a [u8],
-) -> Result<(Data, &'a [u8]), ReadError>
+fn data_of<'a>(alloc: Global, mode: Mode, bytes: &'a [u8]) -> Result<(Data, &'a [u8]), ReadError>
     ensures shorter { IfOk result (λ x. length x.1.now ≤ length bytes.now) }
     ensures gives { Gives (λ x. (x.0, x.1.now)) result (data_at mode bytes.now) }
 {
