@@ -1,7 +1,7 @@
 use Rattle.std.proofs.Common.{arith}
 use Rattle.std.proofs.lemmas.Grind.{merely}
 use Rattle.host_parser.proofs.Main.{one_more, refuses, all_read, found, gives, tree, ends_none}
-use Rattle.host_parser.proofs.parser.read.Goals as goal
+use Rattle.host_parser.proofs.parser.parse.Goals as goal
 
 pub loop-token-preserved : goal.loop-token-preserved
 loop-token-preserved c = one_more c.args.tokens.now c.loop-token.token-index c.token-item.result c.loop-token.reader c.step.new.self (omega arith) c.token-item.is
