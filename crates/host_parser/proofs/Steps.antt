@@ -121,6 +121,13 @@ pub as_called : (w v : List ℕ) (o p : ℕ) (k : ℕ) (a : Passed) (c : ℕ) (l
     → Follows (Some (have (call v k p a c) l outer)) went new → Follows (Some (have (call w k o a c) l outer)) went new
 as_called w v o p k a c l outer went new e1 e2 h = subst (λ z. Follows (Some (have (call z k o a c) l outer)) went new) e1 (subst (λ z. Follows (Some (have (call v k z a c) l outer)) went new) e2 h)
 
+pub ends_call : (w : List ℕ) (p o : ℕ) (a : BeforeListed) (l : Level) (outer : Outer) (k : ℕ) (r : Reader) (rest : Vec code_outer.Outer Global) (outside : code.Level) (c : Call) (went : Bool) (new : Reader)
+    → r.outer.items ≡ rest.items ++ outers.Call outside c ∷ [] → FromArguments (λ w p o a l outer. Some (have (call w p o a k) l outer)) outside c (record r { outer = rest }) went new
+    → Held (script_of outer) r → OuterShows (in_call w p o a l outer) r.nodes (reverse r.outer.items) r.statement → Follows (Some (have (call w p o (passed_with a) k) l outer)) went new
+ends_call w p o a l outer k r rest outside c went new e add h ho =
+    let around : OuterShows (in_call w p o a l outer) r.nodes (outers.Call outside c ∷ reverse rest.items) r.statement = popped (in_call w p o a l outer) r.nodes r.outer.items rest.items (outers.Call outside c) r.statement e ho in
+    as_called w c.callee.now o c.place p (passed_with a) k l outer went new around.1.0 around.1.1 (add p (passed_with a) l outer h around.0 (passed_shown a r.nodes c.arguments around.1.2) around.2)
+
 pub closes_call : (outer : Outer) (f : Factor) (l : Level) (k : ℕ) (r : Reader) (nodes : List Node) (v outside : code.Level) (c : Call) (longer : List NodeId) (x : NodeId) (went : Bool) (new : Reader)
     → Grows r.nodes nodes → SumShows (sum_of l f) nodes x.0 → longer ≡ c.arguments ++ x ∷ []
     → FromArguments (λ w p o a l outer. Some (have (call w p o a k) l outer)) outside (record c { arguments = longer }) (record r { nodes = nodes; level = v }) went new
