@@ -6,7 +6,7 @@ use Rattle.host_lexer.specs.declared.token.Mark.TheVariants as marks
 use Rattle.host_lexer.specs.declared.token.TokenKind.{TokenKind}
 use Rattle.host_lexer.specs.declared.token.TokenKind.TheVariants as kinds
 use Rattle.host_lexer.specs.declared.token.Token.{Token}
-use Rattle.host_parser.specs.Grammar.{plus, minus, Sum, product, added, factor, times, number, text, name, parens, single, comma, none, listed, Script, nothing, declaration, printing, IsFine, IsScript, print_name, sum_depth, most_open, call, unlisted, passed, passed_more, Instance, binding, declared_by, bound_by, reading_name, KeepsNames, Sign, at, sign_of}
+use Rattle.host_parser.specs.Grammar.{plus, minus, Sum, product, added, factor, times, number, text, name, parens, single, comma, none, listed, Script, nothing, declaration, printing, IsFine, IsScript, print_name, sum_depth, most_open, call, unlisted, passed_more, Instance, binding, declared_by, bound_by, reading_name, KeepsNames, sign_of}
 use Rattle.host_parser.proofs.Known.{known_contains, known_lacks, other_text}
 
 abbrev token : TokenKind → ℕ → Token

@@ -7,7 +7,7 @@ use Rattle.host_lexer.specs.declared.token.Mark.TheVariants as marks
 use Rattle.host_lexer.specs.declared.token.TokenKind.{TokenKind}
 use Rattle.host_lexer.specs.declared.token.TokenKind.TheVariants as kinds
 use Rattle.host_parser.specs.declared.instance.Piece.{Piece}
-use Rattle.host_parser.specs.Grammar.{plus, minus, Sum, product, added, Product, factor, times, Factor, number, text, name, parens, call, Listed, single, comma, Passed, unlisted, passed, passed_more, Arguments, none, listed, Instance, Script, nothing, declaration, binding, printing, Sign, at, sum_then, product_then, factor_then, listed_then, passed_then, arguments_then, script_then, print_name, declared_by, bound_by, most_open, sum_depth, product_depth, factor_depth, listed_depth, passed_depth, arguments_depth, SumUses, ProductUses, FactorUses, ListedUses, PassedUse, ArgumentsUse, IsInstance, IsFine}
+use Rattle.host_parser.specs.Grammar.{plus, minus, Sum, product, added, Product, factor, times, Factor, number, text, name, parens, call, Listed, single, comma, Passed, unlisted, passed, passed_more, Arguments, none, listed, Script, nothing, declaration, binding, printing, Sign, at, sum_then, product_then, factor_then, listed_then, passed_then, arguments_then, script_then, print_name, declared_by, bound_by, most_open, sum_depth, product_depth, factor_depth, listed_depth, passed_depth, arguments_depth, SumUses, ProductUses, FactorUses, ListedUses, PassedUse, ArgumentsUse, IsInstance, IsFine}
 use Rattle.host_parser.specs.Pieces.{kind_of, pieces_before_file, pieces_after_file, fits}
 use Rattle.host_parser.specs.Machine.{BeforeSum, no_sum, sum_before, BeforeProduct, no_product, product_before, BeforeListed, no_listed, listed_before, Level, level, fresh, Outer, in_let, in_print, in_parens, in_call, State, items, let_equals, before_file, after_file, instanced, argument, printed, want, passing, have, product_with, sum_with, listed_with, script_of, open_in, run}
 use Rattle.host_parser.proofs.Known.{contains_known, lacks_known, other_bytes}
@@ -98,7 +98,6 @@ mutual
   run_factor (text s k) l outer y u d = refl
   run_factor (name w k) l outer y u d = rw (lacks_known (bound_by (script_of outer)) w u.1, contains_known (declared_by (script_of outer)) w u.0, run) refl
   run_factor (parens o e c) l outer y u d = rw (opens (open_in outer) (omega arith), run) (run_sum e (in_parens o l outer) (at (kinds.Mark marks.Close) c ∷ y) u (omega arith) ∙ rw (sum_again e, run) refl)
-
   run_factor (call w k o a c) l outer y u d = rw (contains_known (bound_by (script_of outer)) w u.0, run) (rw (opens (open_in outer) (omega arith), run) (run_passed a w k o c l outer y u.1 (omega arith)))
 
   run_passed : (a : Passed) (w : List ℕ) (k o c : ℕ) (l : Level) (outer : Outer) (y : List Sign) → PassedUse (declared_by (script_of outer)) (bound_by (script_of outer)) a → passed_depth a + 1 + open_in outer ≤ most_open
@@ -166,8 +165,8 @@ run_file [] (t ∷ ts) read file export s l w n q y h =
     let e : t.kind ≡ kinds.Text file = cc in
     let rest : map (λ t. t.kind) ts ≡ map kind_of pieces_after_file ++ kinds.Name export ∷ [] = cc in
     subst (λ x. run (before_file s l w n q read []) (x ∷ ts ++ y) ≡ run (instanced s l w n q (record { file = file; export = export; tokens = read ++ x ∷ ts })) y) (sym (at_itself t (kinds.Text file) e))
-        (run_export pieces_after_file ts (read ++ at (kinds.Text file) t.place ∷ []) file export s l w n q y rest
-        ∙ ap (λ z. run (instanced s l w n q (record { file = file; export = export; tokens = z })) y) (append_assoc read (at (kinds.Text file) t.place ∷ []) ts))
+    (run_export pieces_after_file ts (read ++ at (kinds.Text file) t.place ∷ []) file export s l w n q y rest
+    ∙ ap (λ z. run (instanced s l w n q (record { file = file; export = export; tokens = z })) y) (append_assoc read (at (kinds.Text file) t.place ∷ []) ts))
 run_file (p ∷ left) [] read file export s l w n q y h = cc
 run_file (p ∷ left) (t ∷ ts) read file export s l w n q y h =
     let e : t.kind ≡ kind_of p = cc in
@@ -183,7 +182,7 @@ run_instance (t ∷ ts) file export s l w n q y h =
     let e : t.kind ≡ kinds.Word words.New = cc in
     let rest : map (λ t. t.kind) ts ≡ map kind_of pieces_before_file ++ kinds.Text file ∷ map kind_of pieces_after_file ++ kinds.Name export ∷ [] = cc in
     subst (λ x. run (let_equals s l w n q) (x ∷ ts ++ y) ≡ run (instanced s l w n q (record { file = file; export = export; tokens = x ∷ ts })) y) (sym (at_itself t (kinds.Word words.New) e))
-        (run_file pieces_before_file ts (at (kinds.Word words.New) t.place ∷ []) file export s l w n q y rest)
+    (run_file pieces_before_file ts (at (kinds.Word words.New) t.place ∷ []) file export s l w n q y rest)
 
 pub run_script : (d : Script) (y : List Sign) → IsFine d → run (items nothing) (script_then d y) ≡ run (items d) y
 run_script nothing y h = refl

@@ -10,7 +10,7 @@ use Rattle.host_lexer.specs.declared.token.TokenKind.{TokenKind}
 use Rattle.host_lexer.specs.declared.token.TokenKind.TheVariants as kinds
 use Rattle.host_parser.specs.declared.instance.Piece.{Piece}
 use Rattle.host_parser.specs.Grammar.{Sum, Product, Factor, name, call, Listed, Passed, passed, Arguments, Instance, Script, Sign, at, print_name, declared_by, bound_by, most_open, sum_depth, product_depth, factor_depth, listed_depth, passed_depth, arguments_depth, SumUses, ProductUses, FactorUses, ListedUses, PassedUse, ArgumentsUse, kinds_before_file, kinds_after_file, IsInstance, IsFine}
-use Rattle.host_parser.specs.Pieces.{kind_of, pieces_before_file, pieces_after_file, fits}
+use Rattle.host_parser.specs.Pieces.{kind_of, fits}
 use Rattle.host_parser.specs.Machine.{BeforeSum, no_sum, sum_before, BeforeProduct, no_product, product_before, BeforeListed, no_listed, listed_before, Level, level, fresh, Outer, in_let, in_print, in_parens, in_call, State, items, let_begun, let_named, let_equals, before_file, after_file, instanced, print_begun, argument, printed, want, called, passing, have, product_with, sum_with, listed_with, passed_with, sum_of, script_of, open_in, is_known, named, opened, wanted, call_opened, pass, closed, parted, ended, marked, had, next_item, let_name, let_value, valued, file_named, export_named, bind_ended, print_opened, argued, print_ended, step, run}
 use Rattle.host_parser.proofs.Known.{known_contains, known_lacks, other_text}
 use Rattle.host_parser.proofs.Pieces.{fit_is, kinds_on}

@@ -10,7 +10,7 @@ use Rattle.host_lexer.specs.declared.token.TokenKind.{TokenKind}
 use Rattle.host_lexer.specs.declared.token.TokenKind.TheVariants as kinds
 use Rattle.host_parser.specs.declared.instance.Piece.{Piece}
 use Rattle.host_parser.specs.Grammar.{Sum, Product, Factor, Script, Instance, Arguments, Sign, at, name, factor_then, sum_then, product_then, listed_then, passed_then, script_then, declared_by, bound_by, most_open, print_name}
-use Rattle.host_parser.specs.Pieces.{pieces_after_file, fits}
+use Rattle.host_parser.specs.Pieces.{fits}
 use Rattle.host_parser.specs.Machine.{BeforeSum, no_sum, sum_before, BeforeProduct, no_product, product_before, BeforeListed, no_listed, listed_before, Level, level, fresh, Outer, in_let, in_print, in_parens, in_call, State, items, let_begun, let_named, let_equals, before_file, after_file, instanced, print_begun, argument, printed, want, called, passing, have, product_with, sum_with, listed_with, passed_with, sum_of, script_of, open_in, is_known, named, opened, wanted, call_opened, pass, closed, parted, ended, marked, had, next_item, let_name, let_value, valued, file_named, export_named, bind_ended, equals_then, print_opened, argued, print_ended, step, run, before_sum_then, before_product_then, before_listed_then, level_then, state_then}
 
 product_with_then : (m : BeforeProduct) (f : Factor) (y : List Sign) → product_then (product_with m f) y ≡ before_product_then m (factor_then f y)

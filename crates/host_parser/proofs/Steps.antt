@@ -23,7 +23,7 @@ use Rattle.host_parser.specs.Grammar.{Sum, Factor, number, text, name, call, Pas
 use Rattle.host_parser.specs.Machine.{BeforeListed, no_listed, listed_before, Level, Outer, in_let, in_print, in_parens, in_call, State, items, have, script_of, open_in, listed_with, passed_with, sum_of, fresh, closed, parted, ended}
 use Rattle.host_parser.specs.Shows.{IsNumber, IsText, IsName, IsCall, IsLet, IsBind, IsPrint, AreBelow, SumShows, FactorShows, PassedShow, ArgumentsShow, ScriptShows}
 use Rattle.host_parser.specs.Chains.{BeforeListedShows, LevelShows, Grows}
-use Rattle.host_parser.specs.Reading.{CallShows, OuterShows, Knows, Held, Shows, Follows, FromHave, FromClosed, FromArguments}
+use Rattle.host_parser.specs.Reading.{OuterShows, Knows, Held, Shows, Follows, FromHave, FromClosed, FromArguments}
 use Rattle.host_parser.proofs.Grow.{at_end, sum_kept, before_listed_kept, passed_kept, passed_below, arguments_kept, script_kept, level_kept, outer_kept}
 use Rattle.host_parser.proofs.Closes.{listed_pushed}
 
@@ -137,9 +137,9 @@ closes_call (in_print s p o a) f l k r nodes v outside c longer x went new g e1 
 closes_call (in_parens o m outer) f l k r nodes v outside c longer x went new g e1 e2 add h ho = absurd ho
 closes_call (in_call w p o a m outer) f l k r nodes v outside c longer x went new g e1 e2 add h ho =
     as_called w c.callee.now o c.place p (passed (listed_with a (sum_of l f))) k m outer went new ho.1.0 ho.1.1
-        (add p (passed (listed_with a (sum_of l f))) m outer (script_kept r.nodes nodes (script_of outer) r.top g h.0, h.1, h.2) (level_kept r.nodes nodes m outside g ho.0)
-        (listed_pushed a (sum_of l f) nodes c.arguments longer x e2 (before_listed_kept r.nodes nodes a c.arguments g ho.1.2) e1)
-        (outer_kept r.nodes nodes outer (reverse r.outer.items) r.statement g ho.2))
+    (add p (passed (listed_with a (sum_of l f))) m outer (script_kept r.nodes nodes (script_of outer) r.top g h.0, h.1, h.2) (level_kept r.nodes nodes m outside g ho.0)
+    (listed_pushed a (sum_of l f) nodes c.arguments longer x e2 (before_listed_kept r.nodes nodes a c.arguments g ho.1.2) e1)
+    (outer_kept r.nodes nodes outer (reverse r.outer.items) r.statement g ho.2))
 
 pub closes_print : (outer : Outer) (f : Factor) (l : Level) (k : ℕ) (r : Reader) (nodes : List Node) (around : Statement) (v : code.Level) (place : ℕ) (ids longer : List NodeId) (x : NodeId)
     → Grows r.nodes nodes → SumShows (sum_of l f) nodes x.0 → longer ≡ ids ++ x ∷ [] → Held (script_of outer) r → OuterShows outer r.nodes [] (statements.Print place ids) → reverse r.outer.items ≡ []
@@ -180,8 +180,7 @@ parts_call (in_call w p o a m outer) f l k r nodes pushed v outside c longer x g
   (
     (script_kept r.nodes nodes (script_of outer) r.top g h.0, h.1, h.2),
     subst (λ z. OuterShows (in_call w p o (listed_before (listed_with a (sum_of l f)) k) m outer) nodes z r.statement)
-        (sym (ap reverse e3 ∙ reverse-append r.outer.items (outers.Call outside (record c { arguments = longer }) ∷ [])))
-        (
+        (sym (ap reverse e3 ∙ reverse-append r.outer.items (outers.Call outside (record c { arguments = longer }) ∷ []))) (
           level_kept r.nodes nodes m outside g ho.0,
           (ho.1.0, ho.1.1, listed_pushed a (sum_of l f) nodes c.arguments longer x e2 (before_listed_kept r.nodes nodes a c.arguments g ho.1.2) e1),
           outer_kept r.nodes nodes outer (reverse r.outer.items) r.statement g ho.2,

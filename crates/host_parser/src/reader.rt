@@ -219,7 +219,12 @@ impl<'a> Reader<'a> {
     }
 
     // Adds a call whose arguments have been read, and goes on outside of it.
-    fn add_call(&mut self, outside: Level, call: Call<'a>, alloc: Global) -> Result<bool, AllocError>
+    fn add_call(
+        &mut self,
+        outside: Level,
+        call: Call<'a>,
+        alloc: Global,
+    ) -> Result<bool, AllocError>
         ensures { IfOk result (λ went. (c : ℕ) → FromArguments (λ w k o a l outer. Some (machine.have (grammar.call w k o a c) l outer)) outside call.entry self.old went self.new) }
     {
         let Call {
@@ -273,7 +278,7 @@ impl<'a> Reader<'a> {
             return Ok(false);
         };
         match taken {
-            Outer::Call(outside, call) => self.add_call(outside, call, alloc),
+            Outer::Call(outside, call) => self.add_call(alloc, outside, call),
             Outer::Parens(_) => Ok(false),
         }
     }
@@ -327,7 +332,7 @@ impl<'a> Reader<'a> {
         let level = mem::replace(&mut self.level, Level::new(alloc));
         let sum = close_level(&mut self.nodes, level, operand)?;
         call.arguments.push(sum)?;
-        self.add_call(outside, call, alloc)
+        self.add_call(alloc, outside, call)
     }
 
     // Reads the `)` of a `print` after an operand.
@@ -502,12 +507,7 @@ impl<'a> Reader<'a> {
     }
 
     // Reads the `=` of a `let`.
-    fn let_value(
-        &mut self,
-        place: u32,
-        name: &'a str,
-        token: &Token,
-    ) -> Result<bool, AllocError>
+    fn let_value(&mut self, place: u32, name: &'a str, token: &Token) -> Result<bool, AllocError>
         ensures { IfOk result (λ went. (n : ℕ) → FromScript (λ s. machine.let_value s place name.now n token.now.from token.now.kind) self.old went self.new) }
     {
         match &token.kind {

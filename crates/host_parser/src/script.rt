@@ -38,7 +38,10 @@ pub enum Form {
         arguments: PlainList<NodeId>,
     },
     /// `let NAME = VALUE;`
-    Let { name: PlainString, value: NodeId },
+    Let {
+        name: PlainString,
+        value: NodeId,
+    },
     /// `let NAME = new WebAssembly.Instance(new WebAssembly.Module(readbuffer("FILE"))).exports.EXPORT;`
     Bind {
         name: PlainString,
@@ -46,7 +49,9 @@ pub enum Form {
         export: PlainString,
     },
     /// `print(ARGUMENTS);`
-    Print { arguments: PlainList<NodeId> },
+    Print {
+        arguments: PlainList<NodeId>,
+    },
 }
 
 /// A node, and its place: the byte of a chain's first operator, of a call's `(`, or of another form's first token.
