@@ -221,9 +221,9 @@ impl<'a> Reader<'a> {
     // Adds a call whose arguments have been read, and goes on outside of it.
     fn add_call(
         &mut self,
+        alloc: Global,
         outside: Level,
         call: Call<'a>,
-        alloc: Global,
     ) -> Result<bool, AllocError>
         ensures { IfOk result (λ went. (c : ℕ) → FromArguments (λ w k o a l outer. Some (machine.have (grammar.call w k o a c) l outer)) outside call.entry self.old went self.new) }
     {
