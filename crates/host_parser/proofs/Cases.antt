@@ -138,7 +138,7 @@ abbrev binds_f : Script
 binds_f = binding nothing 0 (codes "f") 4 6 adder 85
 
 f_fine : IsFine binds_f
-f_fine = (tt, known_lacks [] (codes "f") refl, other_text (codes "f") print_name refl, refl)
+f_fine = (tt, known_lacks [] (codes "f") refl, other_text (codes "f") print_name refl, refl, other_text (codes "f") print_name refl)
 
 -- the same, and print(f(1,) - f());
 abbrev calls_f : Script
@@ -183,7 +183,7 @@ hidden_after h = (h (λ e. cc)).1 (known_contains (declared_by hides_after) (cod
 
 -- let f = ;
 no_instance : IsFine (binding nothing 0 (codes "f") 4 6 (record { file = codes "add"; export = codes "f"; tokens = [] }) 7) → ⊥
-no_instance h = cc
+no_instance h = let q : [] ≡ kinds.Word words.New ∷ _ = h.3 in cc
 
 -- let a = (f()); with a call in 255 parentheses, and in one more
 most_fit_called : IsFine (declaration binds_f 87 (codes "a") 91 93 (nest 255 (product (factor (call (codes "f") 95 96 unlisted 97)))) 98)
@@ -191,3 +191,7 @@ most_fit_called = (f_fine, known_lacks bound_f (codes "a") refl, other_text (cod
 
 one_too_many_called : IsFine (declaration binds_f 87 (codes "a") 91 93 (nest 256 (product (factor (call (codes "f") 95 96 unlisted 97)))) 98) → ⊥
 one_too_many_called h = let deep : sum_depth (nest 256 (product (factor (call (codes "f") 95 96 unlisted 97)))) ≤ most_open = h.4 in omega arith
+
+-- an export called `print`
+export_print : IsFine (binding nothing 0 (codes "f") 4 6 (record { file = codes "add"; export = codes "print"; tokens = [] }) 7) → ⊥
+export_print h = h.4 refl

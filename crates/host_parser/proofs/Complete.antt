@@ -143,46 +143,46 @@ at_itself t k e = ap (λ z. at z t.place) e
 
 -- the tokens of an instance after its file's name, and before the end
 run_export : (left : List Piece) (ts read : List Sign) (file export : List ℕ) (s : Script) (l : ℕ) (w : List ℕ) (n q : ℕ) (y : List Sign)
-    → map (λ t. t.kind) ts ≡ map kind_of left ++ kinds.Name export ∷ []
+    → map (λ t. t.kind) ts ≡ map kind_of left ++ kinds.Name export ∷ [] → (¬ (export ≡ print_name))
     → run (after_file s l w n q file read left) (ts ++ y) ≡ run (instanced s l w n q (record { file = file; export = export; tokens = read ++ ts })) y
-run_export [] [] read file export s l w n q y h = cc
-run_export [] (t ∷ []) read file export s l w n q y h =
+run_export [] [] read file export s l w n q y h f = cc
+run_export [] (t ∷ []) read file export s l w n q y h f =
     let e : t.kind ≡ kinds.Name export = cc in
-    subst (λ x. run (after_file s l w n q file read []) (x ∷ y) ≡ run (instanced s l w n q (record { file = file; export = export; tokens = read ++ x ∷ [] })) y) (sym (at_itself t (kinds.Name export) e)) refl
-run_export [] (t ∷ u ∷ ts) read file export s l w n q y h = cc
-run_export (p ∷ left) [] read file export s l w n q y h = cc
-run_export (p ∷ left) (t ∷ ts) read file export s l w n q y h =
+    subst (λ x. run (after_file s l w n q file read []) (x ∷ y) ≡ run (instanced s l w n q (record { file = file; export = export; tokens = read ++ x ∷ [] })) y) (sym (at_itself t (kinds.Name export) e)) (rw (other_bytes export print_name f, run) refl)
+run_export [] (t ∷ u ∷ ts) read file export s l w n q y h f = cc
+run_export (p ∷ left) [] read file export s l w n q y h f = cc
+run_export (p ∷ left) (t ∷ ts) read file export s l w n q y h f =
     let e : t.kind ≡ kind_of p = cc in
     let rest : map (λ t. t.kind) ts ≡ map kind_of left ++ kinds.Name export ∷ [] = cc in
     let passes : fits p t.kind ≡ true = rw e (fits_itself p) in
-    rw (run, passes) (run_export left ts (read ++ t ∷ []) file export s l w n q y rest ∙ ap (λ z. run (instanced s l w n q (record { file = file; export = export; tokens = z })) y) (append_assoc read (t ∷ []) ts))
+    rw (run, passes) (run_export left ts (read ++ t ∷ []) file export s l w n q y rest f ∙ ap (λ z. run (instanced s l w n q (record { file = file; export = export; tokens = z })) y) (append_assoc read (t ∷ []) ts))
 
 run_file : (left : List Piece) (ts read : List Sign) (file export : List ℕ) (s : Script) (l : ℕ) (w : List ℕ) (n q : ℕ) (y : List Sign)
-    → map (λ t. t.kind) ts ≡ map kind_of left ++ kinds.Text file ∷ map kind_of pieces_after_file ++ kinds.Name export ∷ []
+    → map (λ t. t.kind) ts ≡ map kind_of left ++ kinds.Text file ∷ map kind_of pieces_after_file ++ kinds.Name export ∷ [] → (¬ (export ≡ print_name))
     → run (before_file s l w n q read left) (ts ++ y) ≡ run (instanced s l w n q (record { file = file; export = export; tokens = read ++ ts })) y
-run_file [] [] read file export s l w n q y h = cc
-run_file [] (t ∷ ts) read file export s l w n q y h =
+run_file [] [] read file export s l w n q y h f = cc
+run_file [] (t ∷ ts) read file export s l w n q y h f =
     let e : t.kind ≡ kinds.Text file = cc in
     let rest : map (λ t. t.kind) ts ≡ map kind_of pieces_after_file ++ kinds.Name export ∷ [] = cc in
     subst (λ x. run (before_file s l w n q read []) (x ∷ ts ++ y) ≡ run (instanced s l w n q (record { file = file; export = export; tokens = read ++ x ∷ ts })) y) (sym (at_itself t (kinds.Text file) e))
-    (run_export pieces_after_file ts (read ++ at (kinds.Text file) t.place ∷ []) file export s l w n q y rest
+    (run_export pieces_after_file ts (read ++ at (kinds.Text file) t.place ∷ []) file export s l w n q y rest f
     ∙ ap (λ z. run (instanced s l w n q (record { file = file; export = export; tokens = z })) y) (append_assoc read (at (kinds.Text file) t.place ∷ []) ts))
-run_file (p ∷ left) [] read file export s l w n q y h = cc
-run_file (p ∷ left) (t ∷ ts) read file export s l w n q y h =
+run_file (p ∷ left) [] read file export s l w n q y h f = cc
+run_file (p ∷ left) (t ∷ ts) read file export s l w n q y h f =
     let e : t.kind ≡ kind_of p = cc in
     let rest : map (λ t. t.kind) ts ≡ map kind_of left ++ kinds.Text file ∷ map kind_of pieces_after_file ++ kinds.Name export ∷ [] = cc in
     let passes : fits p t.kind ≡ true = rw e (fits_itself p) in
-    rw (run, passes) (run_file left ts (read ++ t ∷ []) file export s l w n q y rest ∙ ap (λ z. run (instanced s l w n q (record { file = file; export = export; tokens = z })) y) (append_assoc read (t ∷ []) ts))
+    rw (run, passes) (run_file left ts (read ++ t ∷ []) file export s l w n q y rest f ∙ ap (λ z. run (instanced s l w n q (record { file = file; export = export; tokens = z })) y) (append_assoc read (t ∷ []) ts))
 
 -- the tokens of an instance
-run_instance : (ts : List Sign) (file export : List ℕ) (s : Script) (l : ℕ) (w : List ℕ) (n q : ℕ) (y : List Sign) → IsInstance (record { file = file; export = export; tokens = ts })
+run_instance : (ts : List Sign) (file export : List ℕ) (s : Script) (l : ℕ) (w : List ℕ) (n q : ℕ) (y : List Sign) → IsInstance (record { file = file; export = export; tokens = ts }) → (¬ (export ≡ print_name))
     → run (let_equals s l w n q) (ts ++ y) ≡ run (instanced s l w n q (record { file = file; export = export; tokens = ts })) y
-run_instance [] file export s l w n q y h = cc
-run_instance (t ∷ ts) file export s l w n q y h =
+run_instance [] file export s l w n q y h f = cc
+run_instance (t ∷ ts) file export s l w n q y h f =
     let e : t.kind ≡ kinds.Word words.New = cc in
     let rest : map (λ t. t.kind) ts ≡ map kind_of pieces_before_file ++ kinds.Text file ∷ map kind_of pieces_after_file ++ kinds.Name export ∷ [] = cc in
     subst (λ x. run (let_equals s l w n q) (x ∷ ts ++ y) ≡ run (instanced s l w n q (record { file = file; export = export; tokens = x ∷ ts })) y) (sym (at_itself t (kinds.Word words.New) e))
-    (run_file pieces_before_file ts (at (kinds.Word words.New) t.place ∷ []) file export s l w n q y rest)
+    (run_file pieces_before_file ts (at (kinds.Word words.New) t.place ∷ []) file export s l w n q y rest f)
 
 pub run_script : (d : Script) (y : List Sign) → IsFine d → run (items nothing) (script_then d y) ≡ run (items d) y
 run_script nothing y h = refl
@@ -191,7 +191,7 @@ run_script (declaration s l w n q e c) y h =
     ∙ rw (other_bytes w print_name h.2, lacks_known (declared_by s) w h.1, run) (value_begins s l w n q e (at (kinds.Mark marks.Semicolon) c ∷ y) ∙ run_sum e (in_let s l w n q) (at (kinds.Mark marks.Semicolon) c ∷ y) h.3 (omega arith) ∙ rw (sum_again e, run) refl)
 run_script (binding s l w n q i c) y h =
     run_script s (at (kinds.Word words.Let) l ∷ at (kinds.Name w) n ∷ at (kinds.Mark marks.Equals) q ∷ (i.tokens ++ at (kinds.Mark marks.Semicolon) c ∷ y)) h.0
-    ∙ rw (other_bytes w print_name h.2, lacks_known (declared_by s) w h.1, run) (run_instance i.tokens i.file i.export s l w n q (at (kinds.Mark marks.Semicolon) c ∷ y) h.3)
+    ∙ rw (other_bytes w print_name h.2, lacks_known (declared_by s) w h.1, run) (run_instance i.tokens i.file i.export s l w n q (at (kinds.Mark marks.Semicolon) c ∷ y) h.3 h.4)
 run_script (printing s p o a c e) y h =
     run_script s (at (kinds.Name print_name) p ∷ at (kinds.Mark marks.Open) o ∷ arguments_then a (at (kinds.Mark marks.Close) c ∷ at (kinds.Mark marks.Semicolon) e ∷ y)) h.0
     ∙ run_arguments a s p o c (at (kinds.Mark marks.Semicolon) e ∷ y) h.1 h.2

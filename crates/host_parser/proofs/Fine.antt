@@ -69,7 +69,7 @@ StateFine (let_named s l w n) = IsFine s × IsNew s w
 StateFine (let_equals s l w n q) = IsFine s × IsNew s w
 StateFine (before_file s l w n q read left) = IsFine s × IsNew s w × BeforeFile read left
 StateFine (after_file s l w n q file read left) = IsFine s × IsNew s w × AfterFile file read left
-StateFine (instanced s l w n q i) = IsFine s × IsNew s w × IsInstance i
+StateFine (instanced s l w n q i) = IsFine s × IsNew s w × IsInstance i × (¬ (i.export ≡ print_name))
 StateFine (print_begun s p) = IsFine s
 StateFine (argument s p o) = IsFine s
 StateFine (printed s p o a c) = IsFine s × ArgumentsUse (declared_by s) (bound_by s) a × (arguments_depth a + 1 ≤ most_open)
@@ -233,12 +233,20 @@ export_named_fine s l w n q file read (p ∷ left) k t h = on (fits p t) refl
     on : (b : Bool) → fits p t ≡ b → IfFine (cond b (Some (after_file s l w n q file (read ++ at t k ∷ []) left)) None)
     on true e = (h.0, h.1, fits_more read p left k t (kinds_before_file ++ kinds.Text file ∷ kinds_after_file) e h.2)
     on false e = tt
-export_named_fine s l w n q file read [] k (kinds.Name e) h =
-    (h.0, h.1, sym (append-nil (map (λ t. t.kind) (read ++ at (kinds.Name e) k ∷ []))) ∙ ends_in read (at (kinds.Name e) k) (kinds_before_file ++ kinds.Text file ∷ kinds_after_file) [] h.2)
+export_named_fine s l w n q file read [] k (kinds.Name e) h = on (bytes_eq e print_name) refl
+  where
+    on : (b : Bool) → bytes_eq e print_name ≡ b → IfFine (cond b None (Some (instanced s l w n q (record { file = file; export = e; tokens = read ++ at (kinds.Name e) k ∷ [] }))))
+    on true f = tt
+    on false f = (
+      h.0,
+      h.1,
+      sym (append-nil (map (λ t. t.kind) (read ++ at (kinds.Name e) k ∷ []))) ∙ ends_in read (at (kinds.Name e) k) (kinds_before_file ++ kinds.Text file ∷ kinds_after_file) [] h.2,
+      other_text e print_name f,
+    )
 export_named_fine s l w n q file read [] k _ h = tt
 
 bind_ended_fine : (s : Script) (l : ℕ) (w : List ℕ) (n q : ℕ) (i : Instance) (k : ℕ) (t : TokenKind) → StateFine (instanced s l w n q i) → IfFine (bind_ended s l w n q i k t)
-bind_ended_fine s l w n q i k (kinds.Mark marks.Semicolon) h = (h.0, h.1.0, h.1.1, h.2)
+bind_ended_fine s l w n q i k (kinds.Mark marks.Semicolon) h = (h.0, h.1.0, h.1.1, h.2, h.3)
 bind_ended_fine s l w n q i k _ h = tt
 
 print_opened_fine : (s : Script) (p k : ℕ) (t : TokenKind) → IsFine s → IfFine (print_opened s p k t)

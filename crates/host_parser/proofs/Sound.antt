@@ -145,7 +145,11 @@ export_named_spells s l w n q file read (p ∷ left) k t = on (fits p t)
     on : (b : Bool) → Spells (cond b (Some (after_file s l w n q file (read ++ at t k ∷ []) left)) None) (state_then (after_file s l w n q file read (p ∷ left))) (at t k)
     on true = λ y. read_on s l w n q read (at t k) y
     on false = tt
-export_named_spells s l w n q file read [] k (kinds.Name e) = λ y. read_on s l w n q read (at (kinds.Name e) k) y
+export_named_spells s l w n q file read [] k (kinds.Name e) = on (bytes_eq e print_name)
+  where
+    on : (b : Bool) → Spells (cond b None (Some (instanced s l w n q (record { file = file; export = e; tokens = read ++ at (kinds.Name e) k ∷ [] })))) (state_then (after_file s l w n q file read [])) (at (kinds.Name e) k)
+    on true = tt
+    on false = λ y. read_on s l w n q read (at (kinds.Name e) k) y
 export_named_spells s l w n q file read [] k _ = tt
 
 bind_ended_spells : (s : Script) (l : ℕ) (w : List ℕ) (n q : ℕ) (i : Instance) (k : ℕ) (t : TokenKind) → Spells (bind_ended s l w n q i k t) (state_then (instanced s l w n q i)) (at t k)

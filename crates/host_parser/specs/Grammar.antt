@@ -219,12 +219,12 @@ bound_by (declaration s l w n q e c) = bound_by s
 bound_by (binding s l w n q i c) = w ∷ bound_by s
 bound_by (printing s p o a c e) = bound_by s
 
--- no name is declared twice or is `print`, each one that an expression uses was declared by an earlier statement for this
--- use, and never more than 256 parentheses are open at once, that of `print` among them
+-- no name is declared twice, none that is declared or exported is `print`, each one that an expression uses was declared by
+-- an earlier statement for this use, and never more than 256 parentheses are open at once, that of `print` among them
 abbrev pub IsFine : Script → Type 0
 IsFine nothing = Unit {0}
 IsFine (declaration s l w n q e c) = IsFine s × (¬ Contains (declared_by s) w) × (¬ (w ≡ print_name)) × SumUses (declared_by s) (bound_by s) e × (sum_depth e ≤ most_open)
-IsFine (binding s l w n q i c) = IsFine s × (¬ Contains (declared_by s) w) × (¬ (w ≡ print_name)) × IsInstance i
+IsFine (binding s l w n q i c) = IsFine s × (¬ Contains (declared_by s) w) × (¬ (w ≡ print_name)) × IsInstance i × (¬ (i.export ≡ print_name))
 IsFine (printing s p o a c e) = IsFine s × ArgumentsUse (declared_by s) (bound_by s) a × (arguments_depth a + 1 ≤ most_open)
 
 -- a script that loads a module declares none of the names by which it does

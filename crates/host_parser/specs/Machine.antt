@@ -187,7 +187,7 @@ file_named s l w n q read [] k _ = None
 
 abbrev pub export_named : Script → ℕ → List ℕ → ℕ → ℕ → List ℕ → List Sign → List Piece → ℕ → TokenKind → Option State
 export_named s l w n q file read (p ∷ left) k t = cond (fits p t) (Some (after_file s l w n q file (read ++ at t k ∷ []) left)) None
-export_named s l w n q file read [] k (kinds.Name e) = Some (instanced s l w n q (record { file = file; export = e; tokens = read ++ at (kinds.Name e) k ∷ [] }))
+export_named s l w n q file read [] k (kinds.Name e) = cond (bytes_eq e print_name) None (Some (instanced s l w n q (record { file = file; export = e; tokens = read ++ at (kinds.Name e) k ∷ [] })))
 export_named s l w n q file read [] k _ = None
 
 abbrev pub bind_ended : Script → ℕ → List ℕ → ℕ → ℕ → Instance → ℕ → TokenKind → Option State

@@ -594,6 +594,9 @@ impl<'a> Reader<'a> {
             let TokenKind::Name(export) = &token.kind else {
                 return Ok(false);
             };
+            if export.as_str() == "print" {
+                return Ok(false);
+            }
             self.phase = Phase::Instanced {
                 place,
                 name,

@@ -326,6 +326,7 @@ fn items_with_other_tokens_are_refused(rt: HostRuntime) -> Result<(), Fail> {
         "let f = new WebAssembly . Instance ( new WebAssembly . Module ( readbuffer ( m ) ) ) . exports . g ;",
         "let f = new WebAssembly . Instance ( new WebAssembly . Module ( readbuffer ( 'm ) ) ) . exports . 'g ;",
         "let f = new WebAssembly . Instance ( new WebAssembly . Module ( readbuffer ( 'm ) ) ) . exports . g ( ) ;",
+        "let f = new WebAssembly . Instance ( new WebAssembly . Module ( readbuffer ( 'm ) ) ) . exports . print ;",
         "let f = 1 + new WebAssembly . Instance ( new WebAssembly . Module ( readbuffer ( 'm ) ) ) . exports . g ;",
         "let print = new WebAssembly . Instance ( new WebAssembly . Module ( readbuffer ( 'm ) ) ) . exports . g ;",
         "print ( new WebAssembly . Instance ( new WebAssembly . Module ( readbuffer ( 'm ) ) ) . exports . g ) ;",
