@@ -45,7 +45,7 @@ is_decimal (d ∷ []) = is_digit d
 is_decimal (d ∷ c ∷ ds) = is_digit d && (not (d == 48) && list_all is_digit (c ∷ ds))
 
 abbrev pub is_element : Element → Bool
-is_element (name w) = bytes_eq w (codes "let") || (is_identifier w && not (list_any (λ r. bytes_eq r w) reserved_words))
+is_element (name w) = bytes_eq w (codes "let") || bytes_eq w (codes "new") || (is_identifier w && not (list_any (λ r. bytes_eq r w) reserved_words))
 is_element (number ds) = is_decimal ds && nat_le (value_of ds) greatest_number
 is_element (text s) = list_all is_text_part s
 is_element _ = true
@@ -80,12 +80,13 @@ decimal_passes (d ∷ c ∷ ds) h =
     differ (inr (t, n)) f g = n g
 
 name_passes : (w : List ℕ) → is_element (name w) ≡ true → IsElement (name w)
-name_passes w h = on (bytes_eq w (codes "let")) refl h
+name_passes w h = on (bytes_eq w (codes "let")) (bytes_eq w (codes "new")) refl refl h
   where
-    on : (b : Bool) → bytes_eq w (codes "let") ≡ b → (b || (is_identifier w && not (list_any (λ r. bytes_eq r w) reserved_words))) ≡ true → IsElement (name w)
-    on true e h = inl ((bytes_eq-Decides w (codes "let")).0 e)
-    on false e h = let p = both (is_identifier w) (not (list_any (λ r. bytes_eq r w) reserved_words)) h in
-        inr (identifier_passes w p.0, λ c. let t = among_back reserved_words w c in let f = opposite (list_any (λ r. bytes_eq r w) reserved_words) p.1 in cc)
+    on : (b d : Bool) → bytes_eq w (codes "let") ≡ b → bytes_eq w (codes "new") ≡ d → (b || d || (is_identifier w && not (list_any (λ r. bytes_eq r w) reserved_words))) ≡ true → IsElement (name w)
+    on true d e f h = inl ((bytes_eq-Decides w (codes "let")).0 e)
+    on false true e f h = inr (inl ((bytes_eq-Decides w (codes "new")).0 f))
+    on false false e f h = let p = both (is_identifier w) (not (list_any (λ r. bytes_eq r w) reserved_words)) h in
+        inr (inr (identifier_passes w p.0, λ c. let t = among_back reserved_words w c in let f = opposite (list_any (λ r. bytes_eq r w) reserved_words) p.1 in cc))
 
 element_passes : (e : Element) → is_element e ≡ true → IsElement e
 element_passes space h = tt
@@ -152,6 +153,11 @@ after_a_line = worked (name (codes "a") ∷ line_feed ∷ space ∷ name (codes 
 pub word_goes_on : HasTokens (codes "letx") (token (kinds.Name (codes "letx")) 0 4 false ∷ [])
 word_goes_on = worked (name (codes "letx") ∷ []) refl
 
+pub member_of_an_instance : HasTokens (codes "new A(f).b")
+    (token (kinds.Word words.New) 0 3 false ∷ token (kinds.Name (codes "A")) 4 5 false ∷ token (kinds.Mark marks.Open) 5 6 false ∷ token (kinds.Name (codes "f")) 6 7 false
+    ∷ token (kinds.Mark marks.Close) 7 8 false ∷ token (kinds.Mark marks.Dot) 8 9 false ∷ token (kinds.Name (codes "b")) 9 10 false ∷ [])
+member_of_an_instance = worked (name (codes "new") ∷ space ∷ name (codes "A") ∷ mark marks.Open ∷ name (codes "f") ∷ mark marks.Close ∷ mark marks.Dot ∷ name (codes "b") ∷ []) refl
+
 pub odd_name : HasTokens (codes "$_9") (token (kinds.Name (codes "$_9")) 0 3 false ∷ [])
 odd_name = worked (name (codes "$_9") ∷ []) refl
 
@@ -174,6 +180,9 @@ none_begins bytes e lt f never ts h = none bytes 0 false [] lt (no_element bytes
 pub digit_before_letter : (ts : List Token) → HasTokens (codes "1a") ts → ⊥
 digit_before_letter = none_begins (codes "1a") (number (codes "1a")) (lit< tt) refl (λ rest h. let q : false ≡ true = All-head (λ c. is_digit c ≡ true) 97 [] h.is_element.0.2 in cc)
 
+pub point_after_digit : (ts : List Token) → HasTokens (codes "1.a") ts → ⊥
+point_after_digit = none_begins (codes "1.a") (number (codes "1.a")) (lit< tt) refl (λ rest h. let q : false ≡ true = All-head (λ c. is_digit c ≡ true) 46 (97 ∷ []) h.is_element.0.2 in cc)
+
 pub zero_first : (ts : List Token) → HasTokens (codes "01") ts → ⊥
 zero_first = none_begins (codes "01") (number (codes "01")) (lit< tt) refl (λ rest h. h.is_element.0.1 refl)
 
@@ -185,4 +194,5 @@ reserved_word = none_begins (codes "while") (name (codes "while")) (lit< tt) ref
   where
     never : IsElement (name (codes "while")) → ⊥
     never (inl e) = cc
-    never (inr n) = n.1 (46, lit< tt, refl)
+    never (inr (inl e)) = cc
+    never (inr (inr n)) = n.1 (46, lit< tt, refl)

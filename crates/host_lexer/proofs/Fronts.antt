@@ -13,7 +13,7 @@ use Rattle.host_lexer.proofs.Runs.{run_of, run_is}
 -- the mark of a byte
 abbrev pub mark_at : ℕ → Option Mark
 mark_at c = cond (c == 61) (Some marks.Equals) (cond (c == 59) (Some marks.Semicolon) (cond (c == 40) (Some marks.Open) (cond (c == 41) (Some marks.Close)
-    (cond (c == 44) (Some marks.Comma) (cond (c == 43) (Some marks.Plus) (cond (c == 45) (Some marks.Minus) (cond (c == 42) (Some marks.Star) None)))))))
+    (cond (c == 44) (Some marks.Comma) (cond (c == 43) (Some marks.Plus) (cond (c == 45) (Some marks.Minus) (cond (c == 42) (Some marks.Star) (cond (c == 46) (Some marks.Dot) None))))))))
 
 abbrev pub mark_front : Option Mark → Option Element
 mark_front None = None
@@ -41,10 +41,14 @@ part_from_digit c h = grind (arith, nat_tests)
 pub letters : All (λ d. is_name_part d ≡ true) (101 ∷ 116 ∷ [])
 letters = All-from_recursion (λ d. is_name_part d ≡ true) (101 ∷ 116 ∷ []) (refl, (refl, tt))
 
--- the word `let` is spelt as a name is
+pub other_letters : All (λ d. is_name_part d ≡ true) (101 ∷ 119 ∷ [])
+other_letters = All-from_recursion (λ d. is_name_part d ≡ true) (101 ∷ 119 ∷ []) (refl, (refl, tt))
+
+-- the words `let` and `new` are spelt as names are
 pub identifier : (w : List ℕ) → IsElement (name w) → IsIdentifier w
 identifier w (inl e) = rw e (refl, letters)
-identifier w (inr h) = h.0
+identifier w (inr (inl e)) = rw e (refl, other_letters)
+identifier w (inr (inr h)) = h.0
 
 -- a decimal number is digits
 pub digits : (ds : List ℕ) → IsDecimal ds → All (λ c. is_digit c ≡ true) ds
@@ -95,6 +99,7 @@ front_of (mark marks.Comma) rest h s = refl
 front_of (mark marks.Plus) rest h s = refl
 front_of (mark marks.Minus) rest h s = refl
 front_of (mark marks.Star) rest h s = refl
+front_of (mark marks.Dot) rest h s = refl
 
 -- what begins some bytes is their front
 pub fronted : (bytes : List ℕ) (e : Element) (rest : List ℕ) → Heads bytes e rest → front bytes ≡ Some e

@@ -11,12 +11,15 @@ use Rattle.host_lexer.specs.Tokens.{Element, space, line_feed, name, number, tex
 use Rattle.host_lexer.proofs.Fronts.{identifier}
 
 kind_can_be : (w : List ℕ) → IsElement (name w) → IsTokenKind (kind_of_name w)
-kind_can_be w h = on (bytes_eq w (codes "let")) refl h
+kind_can_be w h = on (bytes_eq w (codes "let")) (bytes_eq w (codes "new")) refl refl h
   where
-    on : (b : Bool) → bytes_eq w (codes "let") ≡ b → IsElement (name w) → IsTokenKind (if b then kinds.Word words.Let else kinds.Name w)
-    on true e h = tt
-    on false e (inl q) = let t : bytes_eq w (codes "let") ≡ true = (bytes_eq-Decides w (codes "let")).1 q in cc
-    on false e (inr h) = h
+    on : (b c : Bool) → bytes_eq w (codes "let") ≡ b → bytes_eq w (codes "new") ≡ c → IsElement (name w)
+        → IsTokenKind (if b then kinds.Word words.Let else if c then kinds.Word words.New else kinds.Name w)
+    on true c e f h = tt
+    on false true e f h = tt
+    on false false e f (inl q) = let t : bytes_eq w (codes "let") ≡ true = (bytes_eq-Decides w (codes "let")).1 q in cc
+    on false false e f (inr (inl q)) = let t : bytes_eq w (codes "new") ≡ true = (bytes_eq-Decides w (codes "new")).1 q in cc
+    on false false e f (inr (inr h)) = h
 
 name_size : (w : List ℕ) → IsElement (name w) → 0 < length w
 name_size [] h = absurd (identifier [] h)

@@ -24,11 +24,12 @@ left : (bytes w rest : List ℕ) (at n : ℕ) → w ++ rest ≡ drop at bytes �
 left bytes w rest at n e s = sym (drop_at w rest n (sym s)) ∙ ap (drop n) e ∙ drop-drop n at bytes
 
 name_spells : (bytes w : List ℕ) → bytes ≡ w → Spells bytes (kind_of_name w)
-name_spells bytes w e = on (bytes_eq w (codes "let")) refl
+name_spells bytes w e = on (bytes_eq w (codes "let")) (bytes_eq w (codes "new")) refl refl
   where
-    on : (b : Bool) → bytes_eq w (codes "let") ≡ b → Spells bytes (if b then kinds.Word words.Let else kinds.Name w)
-    on true q = e ∙ (bytes_eq-Decides w (codes "let")).0 q
-    on false q = e
+    on : (b c : Bool) → bytes_eq w (codes "let") ≡ b → bytes_eq w (codes "new") ≡ c → Spells bytes (if b then kinds.Word words.Let else if c then kinds.Word words.New else kinds.Name w)
+    on true c q r = e ∙ (bytes_eq-Decides w (codes "let")).0 q
+    on false true q r = e ∙ (bytes_eq-Decides w (codes "new")).0 r
+    on false false q r = e
 
 spells : (bytes : List ℕ) (es : List Element) (at : ℕ) (after : Bool) → spelled es ≡ drop at bytes → AreElements es → All (IsSpelled bytes) (tokens_from at after es)
 spells bytes [] at after e a = All-nil (IsSpelled bytes)

@@ -1,4 +1,4 @@
--- The splitting of a script's text into tokens (ECMA-262, section 12, cut to the profile's first script form): the text
+-- The splitting of a script's text into tokens (ECMA-262, section 12, cut to the profile's script form): the text
 -- is a row of input elements, each the longest that can stand there.
 use Rattle.std.specs.Prelude.{◌≡◌, ℕ, ◌+◌, ◌-◌, ◌*◌, ◌<◌, ◌≤◌, Bool, true, false, not, ◌&&◌, ◌||◌, ◌==◌, nat_le, List, [], ◌∷◌, ◌++◌, ◌⊎◌, length, fold, All, Contains, codes, if◌then◌else◌, Result, Ok, Err}
 use Rattle.std.specs.Str.{bytes_eq}
@@ -52,6 +52,7 @@ byte_of marks.Comma = 44
 byte_of marks.Plus = 43
 byte_of marks.Minus = 45
 byte_of marks.Star = 42
+byte_of marks.Dot = 46
 
 -- the bytes of an element
 abbrev pub spelling_of : Element → List ℕ
@@ -102,9 +103,9 @@ IsDecimal (d ∷ ds) = (is_digit d ≡ true) × (¬ (d ≡ 48)) × All (λ c. is
 abbrev pub greatest_number : ℕ
 greatest_number = 9007199254740991
 
--- what an element is by itself: a name is the word `let` or no reserved word, and a number lies in the profile
+-- what an element is by itself: a name is the word `let` or `new` or no reserved word, and a number lies in the profile
 abbrev pub IsElement : Element → Type 0
-IsElement (name w) = (w ≡ codes "let") ⊎ IsName w
+IsElement (name w) = (w ≡ codes "let") ⊎ (w ≡ codes "new") ⊎ IsName w
 IsElement (number ds) = IsDecimal ds × (value_of ds ≤ greatest_number)
 IsElement (text s) = All (λ c. is_text_part c ≡ true) s
 IsElement _ = Unit {0}
@@ -125,9 +126,9 @@ abbrev pub AreElements : List Element → Type 0
 AreElements [] = Unit {0}
 AreElements (e ∷ es) = IsElement e × EndsBefore e (spelled es) × AreElements es
 
--- the kind of a name's token: the word `let`, or a name
+-- the kind of a name's token: the word `let` or `new`, or a name
 abbrev pub kind_of_name : List ℕ → TokenKind
-kind_of_name w = if bytes_eq w (codes "let") then kinds.Word words.Let else kinds.Name w
+kind_of_name w = if bytes_eq w (codes "let") then kinds.Word words.Let else if bytes_eq w (codes "new") then kinds.Word words.New else kinds.Name w
 
 -- a token of a kind with so many bytes
 abbrev pub token_at : ℕ → ℕ → Bool → TokenKind → Token
@@ -165,6 +166,7 @@ InOrder at len (t ∷ ts) = (at ≤ t.from) × (t.from < t.to) × IsTokenKind t.
 abbrev pub Spells : List ℕ → TokenKind → Type 0
 Spells bytes (kinds.Name w) = bytes ≡ w
 Spells bytes (kinds.Word words.Let) = bytes ≡ codes "let"
+Spells bytes (kinds.Word words.New) = bytes ≡ codes "new"
 Spells bytes (kinds.Number n) = IsDecimal bytes × (value_of bytes ≡ n)
 Spells bytes (kinds.Text s) = bytes ≡ 34 ∷ (s ++ 34 ∷ [])
 Spells bytes (kinds.Mark m) = bytes ≡ byte_of m ∷ []

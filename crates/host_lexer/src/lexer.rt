@@ -178,6 +178,7 @@ fn mark_of(byte: u8) -> Option<Mark>
         b'+' => Some(Mark::Plus),
         b'-' => Some(Mark::Minus),
         b'*' => Some(Mark::Star),
+        b'.' => Some(Mark::Dot),
         _ => None,
     }
 }

@@ -24,7 +24,7 @@ fn is_decimal(digits: &[u8]) -> bool
     are_digits(digits)
 }
 
-// The number that is spelt so, if it is one of the profile.
+/// The number that is spelt so, if it is one of the profile.
 pub fn number_value(digits: &[u8]) -> Option<u64>
     ensures value { MatchOption result (¬ spec.IsElement (spec.number digits.now)) (λ value. value ≡ spec.value_of digits.now) }
     ensures some { MatchOption result (Unit {0}) (λ value. spec.IsElement (spec.number digits.now)) }

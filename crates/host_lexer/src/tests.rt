@@ -49,6 +49,12 @@ fn texts_split_as_the_form_says(rt: HostRuntime) -> Result<(), Fail> {
             "0-1 name a;1-2 Plus;2-5 name $_9;5-6 Minus;6-8 name b3;8-9 Star;9-10 name c;",
         ),
         ("letx", "0-4 name letx;"),
+        ("newx", "0-4 name newx;"),
+        (
+            "new W.Module(readbuffer(\"m\"))\n.exports . f",
+            "0-3 New;4-5 name W;5-6 Dot;6-12 name Module;12-13 Open;13-23 name readbuffer;23-24 Open;24-27 text m;27-28 Close;28-29 Close;|30-31 Dot;31-38 name exports;39-40 Dot;41-42 name f;",
+        ),
+        (".5 ..", "0-1 Dot;1-2 number 5;3-4 Dot;4-5 Dot;"),
         ("\n0 \n\n \"\"x", "|1-2 number 0;|6-8 text ;8-9 name x;"),
         ("9007199254740991", "0-16 number 9007199254740991;"),
         (
@@ -70,7 +76,10 @@ fn texts_split_as_the_form_says(rt: HostRuntime) -> Result<(), Fail> {
         ("'a'", "not yet"),
         ("6 / 2", "not yet"),
         ("while", "not yet"),
-        ("a . b", "not yet"),
+        ("a : b", "not yet"),
+        ("1.a", "not yet"),
+        ("1.", "not yet"),
+        ("export", "not yet"),
     ];
     for (text, expected) in cases {
         let got = all_shown(&rt, rt.alloc(), text)?;

@@ -6,6 +6,7 @@ use thiserror::Error;
 #[derive(Clone, Copy, PartialEq, Eq, Debug)]
 pub enum Word {
     Let,
+    New,
 }
 
 /// A punctuator.
@@ -19,6 +20,7 @@ pub enum Mark {
     Plus,
     Minus,
     Star,
+    Dot,
 }
 
 /// What a token is, with its value: a name's or a text's characters, or a number.

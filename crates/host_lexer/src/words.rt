@@ -75,7 +75,7 @@ fn is_reserved(word: &str) -> bool
     is_among(&RESERVED_WORDS, word)
 }
 
-// The kind of the token that is spelt as a name is.
+/// The kind of the token that is spelt as a name is.
 pub fn name_kind(alloc: Global, word: &str) -> Result<TokenKind, LexError>
     requires { spec.IsIdentifier word.now }
     ensures kind { IfOk result (λ kind. kind ≡ spec.kind_of_name word.now) }
@@ -84,6 +84,9 @@ pub fn name_kind(alloc: Global, word: &str) -> Result<TokenKind, LexError>
 {
     if word == "let" {
         return Ok(TokenKind::Word(Word::Let));
+    }
+    if word == "new" {
+        return Ok(TokenKind::Word(Word::New));
     }
     if is_reserved(word) {
         return Err(LexError::NotYet);

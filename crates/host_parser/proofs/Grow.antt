@@ -7,11 +7,13 @@ use Rattle.host_parser.specs.declared.script.Form.{Form}
 use Rattle.host_parser.specs.declared.script.Form.TheVariants as forms
 use Rattle.host_parser.specs.declared.script.Node.{Node}
 use Rattle.host_parser.specs.declared.chain.Level as code
+use Rattle.host_parser.specs.declared.reader.Outer as code_outer
+use Rattle.host_parser.specs.declared.reader.Outer.TheVariants as outers
 use Rattle.host_parser.specs.declared.reader.Statement.{Statement}
 use Rattle.host_parser.specs.declared.reader.Statement.TheVariants as statements
-use Rattle.host_parser.specs.Grammar.{Additive, Sum, product, added, Product, factor, times, Factor, number, text, name, parens, Listed, single, comma, Arguments, none, listed, Script, nothing, declaration, printing}
-use Rattle.host_parser.specs.Machine.{BeforeSum, no_sum, sum_before, BeforeProduct, no_product, product_before, BeforeListed, no_listed, listed_before, Level, level, Outer, in_let, in_print, in_parens}
-use Rattle.host_parser.specs.Shows.{AtNode, IsChain, IsLet, IsPrint, SumShows, SumLeft, ProductShows, ProductLeft, FactorShows, ListedShows, ArgumentsShow, ScriptShows}
+use Rattle.host_parser.specs.Grammar.{Additive, Sum, product, added, Product, factor, times, Factor, number, text, name, parens, call, Listed, single, comma, Passed, unlisted, passed, passed_more, Arguments, none, listed, Script, nothing, declaration, binding, printing}
+use Rattle.host_parser.specs.Machine.{BeforeSum, no_sum, sum_before, BeforeProduct, no_product, product_before, BeforeListed, no_listed, listed_before, Level, level, Outer, in_let, in_print, in_parens, in_call}
+use Rattle.host_parser.specs.Shows.{AtNode, IsChain, IsCall, IsLet, IsPrint, AreBelow, SumShows, SumLeft, ProductShows, ProductLeft, FactorShows, ListedShows, PassedShow, ArgumentsShow, ScriptShows}
 use Rattle.host_parser.specs.Chains.{BeforeSumShows, BeforeProductShows, BeforeListedShows, LevelShows, Grows}
 use Rattle.host_parser.specs.Reading.{OuterShows}
 
@@ -46,10 +48,28 @@ mutual
   factor_below (text s k) nodes id h = at_below nodes id _ _ h
   factor_below (name w k) nodes id h = at_below nodes id _ _ h
   factor_below (parens o e c) nodes id h = sum_below e nodes id h
+  factor_below (call w k o a c) nodes id h = at_below nodes id _ _ h
+
+below_more : (front : List NodeId) (x : NodeId) (n : ℕ) → AreBelow front n → x.0 < n → AreBelow (front ++ x ∷ []) n
+below_more [] x n h lt = (lt, tt)
+below_more (y ∷ front) x n h lt = (h.0, below_more front x n h.1 lt)
+
+listed_below : (l : Listed) (nodes : List Node) (ids : List NodeId) → ListedShows l nodes ids → AreBelow ids (length nodes)
+listed_below (single e) nodes ids (x, h, f) = rw h (sum_below e nodes x.0 f, tt)
+listed_below (comma l k e) nodes ids (front, x, h, f) = rw h (below_more front x (length nodes) (listed_below l nodes front f.0) (sum_below e nodes x.0 f.1))
+
+pub passed_below : (a : Passed) (nodes : List Node) (ids : List NodeId) → PassedShow a nodes ids → AreBelow ids (length nodes)
+passed_below unlisted nodes ids h = rw h tt
+passed_below (passed l) nodes ids h = listed_below l nodes ids h
+passed_below (passed_more l k) nodes ids h = listed_below l nodes ids h
 
 chain_grows : (P Q : List Operand → ℕ → Type 0) → ((left : List Operand) (last : ℕ) → P left last → Q left last) → (f : Form) → IsChain P f → IsChain Q f
 chain_grows P Q g (forms.Chain left last) h = g left last.0 h
 chain_grows P Q g _ h = absurd h
+
+call_grows : (w : List ℕ) (P Q : List NodeId → Type 0) → ((arguments : List NodeId) → P arguments → Q arguments) → (f : Form) → IsCall w P f → IsCall w Q f
+call_grows w P Q g (forms.Call v arguments) h = (h.0, g arguments h.1)
+call_grows w P Q g _ h = absurd h
 
 let_grows : (w : List ℕ) (P Q : ℕ → Type 0) → ((value : ℕ) → P value → Q value) → (f : Form) → IsLet w P f → IsLet w Q f
 let_grows w P Q g (forms.Let v value) h = (h.0, g value.0 h.1)
@@ -82,10 +102,16 @@ module _ (nodes more : List Node) where
     factor_on (text s k) id h = at_grows nodes more id _ _ _ (λ f g. g) h
     factor_on (name w k) id h = at_grows nodes more id _ _ _ (λ f g. g) h
     factor_on (parens o e c) id h = sum_on e id h
+    factor_on (call w k o a c) id h = at_grows nodes more id _ _ _ (call_grows w _ _ (λ arguments g. (passed_on a arguments g.0, g.1))) h
 
-  listed_on : (l : Listed) (ids : List NodeId) → ListedShows l nodes ids → ListedShows l (nodes ++ more) ids
-  listed_on (single e) ids (x, h, f) = (x, h, sum_on e _ f)
-  listed_on (comma l k e) ids (front, x, h, f) = (front, x, h, (listed_on l front f.0, sum_on e _ f.1))
+    listed_on : (l : Listed) (ids : List NodeId) → ListedShows l nodes ids → ListedShows l (nodes ++ more) ids
+    listed_on (single e) ids (x, h, f) = (x, h, sum_on e _ f)
+    listed_on (comma l k e) ids (front, x, h, f) = (front, x, h, (listed_on l front f.0, sum_on e _ f.1))
+
+    passed_on : (a : Passed) (ids : List NodeId) → PassedShow a nodes ids → PassedShow a (nodes ++ more) ids
+    passed_on unlisted ids h = h
+    passed_on (passed l) ids h = listed_on l ids h
+    passed_on (passed_more l k) ids h = listed_on l ids h
 
   arguments_on : (a : Arguments) (ids : List NodeId) → ArgumentsShow a nodes ids → ArgumentsShow a (nodes ++ more) ids
   arguments_on none ids h = h
@@ -94,6 +120,7 @@ module _ (nodes more : List Node) where
   script_on : (d : Script) (ids : List NodeId) → ScriptShows d nodes ids → ScriptShows d (nodes ++ more) ids
   script_on nothing ids h = h
   script_on (declaration s l w n q e c) ids (front, x, h, f) = (front, x, h, (script_on s front f.0, at_grows nodes more x.0 _ _ _ (let_grows w _ _ (λ value g. sum_on e value g)) f.1))
+  script_on (binding s l w n q i c) ids (front, x, h, f) = (front, x, h, (script_on s front f.0, at_grows nodes more x.0 _ _ _ (λ f g. g) f.1))
   script_on (printing s p o a c e) ids (front, x, h, f) = (front, x, h, (script_on s front f.0, at_grows nodes more x.0 _ _ _ (print_grows _ _ (λ arguments g. arguments_on a arguments g)) f.1))
 
   before_sum_on : (a : BeforeSum) (left : List Operand) → BeforeSumShows a nodes left → BeforeSumShows a (nodes ++ more) left
@@ -111,10 +138,11 @@ module _ (nodes more : List Node) where
   level_on : (l : Level) (v : code.Level) → LevelShows l nodes v → LevelShows l (nodes ++ more) v
   level_on (level a m) v h = (before_sum_on a _ h.0, before_product_on m _ h.1)
 
-  outer_on : (outer : Outer) (vs : List code.Level) (around : Statement) → OuterShows outer nodes vs around → OuterShows outer (nodes ++ more) vs around
+  outer_on : (outer : Outer) (vs : List code_outer.Outer) (around : Statement) → OuterShows outer nodes vs around → OuterShows outer (nodes ++ more) vs around
   outer_on (in_let s l w n q) [] (statements.Let p v) h = h
   outer_on (in_print s p o a) [] (statements.Print q ids) h = (h.0, before_listed_on a ids h.1)
-  outer_on (in_parens o l outer) (v ∷ vs) around h = (level_on l v h.0, outer_on outer vs around h.1)
+  outer_on (in_parens o l outer) (outers.Parens v ∷ vs) around h = (level_on l v h.0, outer_on outer vs around h.1)
+  outer_on (in_call w k o a l outer) (outers.Call v c ∷ vs) around h = (level_on l v h.0, (h.1.0, h.1.1, before_listed_on a c.arguments h.1.2), outer_on outer vs around h.2)
   outer_on _ _ _ h = absurd h
 
 -- what a table that went on shows
@@ -136,6 +164,9 @@ before_product_kept old new m left (more, e) h = subst (λ z. BeforeProductShows
 pub before_listed_kept : (old new : List Node) (a : BeforeListed) (ids : List NodeId) → Grows old new → BeforeListedShows a old ids → BeforeListedShows a new ids
 before_listed_kept old new a ids (more, e) h = subst (λ z. BeforeListedShows a z ids) (sym e) (before_listed_on old more a ids h)
 
+pub passed_kept : (old new : List Node) (a : Passed) (ids : List NodeId) → Grows old new → PassedShow a old ids → PassedShow a new ids
+passed_kept old new a ids (more, e) h = subst (λ z. PassedShow a z ids) (sym e) (passed_on old more a ids h)
+
 pub arguments_kept : (old new : List Node) (a : Arguments) (ids : List NodeId) → Grows old new → ArgumentsShow a old ids → ArgumentsShow a new ids
 arguments_kept old new a ids (more, e) h = subst (λ z. ArgumentsShow a z ids) (sym e) (arguments_on old more a ids h)
 
@@ -145,5 +176,5 @@ script_kept old new d ids (more, e) h = subst (λ z. ScriptShows d z ids) (sym e
 pub level_kept : (old new : List Node) (l : Level) (v : code.Level) → Grows old new → LevelShows l old v → LevelShows l new v
 level_kept old new l v (more, e) h = subst (λ z. LevelShows l z v) (sym e) (level_on old more l v h)
 
-pub outer_kept : (old new : List Node) (outer : Outer) (vs : List code.Level) (around : Statement) → Grows old new → OuterShows outer old vs around → OuterShows outer new vs around
+pub outer_kept : (old new : List Node) (outer : Outer) (vs : List code_outer.Outer) (around : Statement) → Grows old new → OuterShows outer old vs around → OuterShows outer new vs around
 outer_kept old new outer vs around (more, e) h = subst (λ z. OuterShows outer z vs around) (sym e) (outer_on old more outer vs around h)

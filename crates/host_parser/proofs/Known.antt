@@ -1,9 +1,12 @@
 -- Whether a name is known is decided by its bytes.
-use Rattle.std.specs.Prelude.{◌≡◌, ℕ, zero, suc, List, [], ◌∷◌, Bool, true, false, cond, Contains, refl}
+use Rattle.std.specs.Prelude.{◌≡◌, ◌↔◌, ℕ, zero, suc, List, [], ◌∷◌, length, Bool, true, false, not, cond, IsTrue, Contains, refl}
 use Rattle.std.specs.Str.{bytes_eq}
-use Rattle.std.proofs.Common.{arith}
+use Rattle.std.proofs.Common.{sym, ◌∙◌, arith}
 use Rattle.std.proofs.lemmas.Slice.Eq.{bytes_eq-Decides}
+use denote.Ref.{Bor}
+use Rattle.host_parser.specs.Grammar.{Script, declared_by, bound_by, reading_name, interface_name, KeepsNames}
 use Rattle.host_parser.specs.Machine.{is_known}
+use Rattle.host_parser.specs.Reading.{Knows}
 
 contains_more : (known : List (List ℕ)) (v w : List ℕ) → Contains known w → Contains (v ∷ known) w
 contains_more known v w (k, lt, e) = (suc k, omega arith, e)
@@ -45,3 +48,30 @@ other_text v w h = λ e. let q : bytes_eq v w ≡ true = (bytes_eq-Decides v w).
 
 pub other_bytes : (v w : List ℕ) → (¬ (v ≡ w)) → bytes_eq v w ≡ false
 other_bytes v w h = not_true (bytes_eq v w) (λ e. h ((bytes_eq-Decides v w).0 e))
+
+-- a text as a borrow
+abbrev pub lent : List ℕ → Bor (List ℕ)
+lent w = record { ref_ptr = (0, 0); now = w }
+
+-- an empty set knows no name
+none_known : (known : List (List ℕ)) (keys : List (Bor (List ℕ))) → Knows known keys → length keys ≡ 0 → known ≡ []
+none_known [] keys k e = refl
+none_known (w ∷ known) [] k e = let q : false ≡ true = k (lent w) ∙ rw ((bytes_eq-Decides w w).1 refl) refl in cc
+none_known (w ∷ known) (x ∷ keys) k e = absurd (omega (arith, e))
+
+-- and each other one knows some
+some_known : (known : List (List ℕ)) (keys : List (Bor (List ℕ))) → Knows known keys → (length keys ≡ 0 → ⊥) → known ≡ [] → ⊥
+some_known known [] k n e = n refl
+some_known [] (x ∷ keys) k n e = let q : true ≡ false = sym (rw ((bytes_eq-Decides x.now x.now).1 refl) refl) ∙ k x in cc
+some_known (w ∷ known) (x ∷ keys) k n e = cc
+
+-- whether a script keeps the names by which it loads a module
+pub keeps_alone : (s : Script) (keys : List (Bor (List ℕ))) → Knows (bound_by s) keys → length keys ≡ 0 → IsTrue true ↔ KeepsNames s
+keeps_alone s keys k e = (λ t n. absurd (n (none_known (bound_by s) keys k e)), λ h. refl)
+
+pub reading_hidden : (s : Script) (keys : List (Bor (List ℕ))) → Knows (bound_by s) keys → (length keys ≡ 0 → ⊥) → is_known (declared_by s) reading_name ≡ true → IsTrue false ↔ KeepsNames s
+reading_hidden s keys k n e = (λ f. (let q : false ≡ true = f in cc), λ h. absurd ((h (λ none. some_known (bound_by s) keys k n none)).0 (known_contains (declared_by s) reading_name e)))
+
+pub keeps_both : (s : Script) (keys : List (Bor (List ℕ))) (b : Bool) → Knows (bound_by s) keys → (length keys ≡ 0 → ⊥) → is_known (declared_by s) reading_name ≡ false → is_known (declared_by s) interface_name ≡ b → IsTrue (not b) ↔ KeepsNames s
+keeps_both s keys false k n e f = (λ t none. (known_lacks (declared_by s) reading_name e, known_lacks (declared_by s) interface_name f), λ h. refl)
+keeps_both s keys true k n e f = (λ t. (let q : false ≡ true = t in cc), λ h. absurd ((h (λ none. some_known (bound_by s) keys k n none)).1 (known_contains (declared_by s) interface_name f)))

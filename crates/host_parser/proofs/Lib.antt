@@ -5,5 +5,6 @@ pub mod Fine
 pub mod Grow
 pub mod Known
 pub mod Main
+pub mod Pieces
 pub mod Sound
 pub mod Steps

@@ -1,15 +1,15 @@
 -- What the machine has read is a script exactly where it wants a statement.
-use Rattle.std.specs.Prelude.{◌≡◌, ℕ, ◌+◌, ◌<◌, ◌≤◌, List, [], ◌∷◌, ◌++◌, map, take, length, true, false, Option, Some, None, refl, reverse}
+use Rattle.std.specs.Prelude.{◌≡◌, ℕ, ◌+◌, ◌<◌, ◌≤◌, List, [], ◌∷◌, ◌++◌, map, take, length, Bool, true, false, ◌↔◌, IsTrue, Option, Some, None, refl, reverse}
 use Rattle.std.proofs.Common.{sym, ◌∙◌, ap, subst, append_assoc, append-nil, get_or, drop, take_all}
 use Rattle.std.proofs.lemmas.List.{take_more, take-append-drop}
 use Rattle.host_lexer.specs.declared.token.Token.{Token}
 use Rattle.host_parser.specs.declared.reader.Phase.{Phase}
 use Rattle.host_parser.specs.declared.reader.Phase.TheVariants as phases
 use Rattle.host_parser.specs.declared.reader.Reader.{Reader}
-use Rattle.host_parser.specs.Grammar.{Script, Sign, sign_of, IsScript}
+use Rattle.host_parser.specs.Grammar.{Script, Sign, sign_of, KeepsNames, IsScript}
 use Rattle.host_parser.specs.Machine.{State, items, step, run, start}
 use Rattle.host_parser.specs.Shows.{ScriptShows, IsTree}
-use Rattle.host_parser.specs.Reading.{Shows, Follows, PhaseShows, state_script}
+use Rattle.host_parser.specs.Reading.{Held, Shows, Follows, PhaseShows, state_script}
 use Rattle.host_parser.proofs.Complete.{run_script}
 use Rattle.host_parser.proofs.Fine.{run_fine}
 use Rattle.host_parser.proofs.Sound.{run_spells}
@@ -37,10 +37,11 @@ script_read : (ts : List Token) (d : Script) → IsScript ts d → run start (ma
 script_read ts d h = subst (λ z. run start z ≡ Some (items d)) h.spelled (run_script d [] h.fine)
 
 -- what leads to where a statement is wanted is a script
-read_script : (ts : List Token) (d : Script) → run start (map sign_of ts) ≡ Some (items d) → IsScript ts d
-read_script ts d h = record {
+read_script : (ts : List Token) (d : Script) → run start (map sign_of ts) ≡ Some (items d) → KeepsNames d → IsScript ts d
+read_script ts d h keeps = record {
   spelled = run_spells (map sign_of ts) start (items d) [] h ∙ append-nil (map sign_of ts);
   fine = run_fine (map sign_of ts) start (items d) tt h;
+  keeps = keeps;
 }
 
 -- the tokens lead to a state that the reader shows
@@ -76,26 +77,33 @@ refuses ts i t old new lt same f (s, h, g) d is =
 pub all_read : (ts : List Token) (i : ℕ) (r : Reader) → length ts ≤ i → Leads (take i ts) r → Leads ts r
 all_read ts i r n (s, h, g) = (s, (ap (λ z. run start (map sign_of z)) (sym (take_all i ts n)) ∙ h), g)
 
-items_shown : (s : State) (r : Reader) → Shows s r → r.phase ≡ phases.Items → (d : Script) × (s ≡ items d) × ScriptShows d r.nodes r.top
-items_shown s r h e = on s (h.0.0) (subst (λ z. PhaseShows s z r.nodes r.level (reverse r.outer.items) r.statement) e h.1)
+items_shown : (s : State) (r : Reader) → Shows s r → r.phase ≡ phases.Items → (d : Script) × (s ≡ items d) × Held d r
+items_shown s r h e = on s h.0 (subst (λ z. PhaseShows s z r.nodes r.level (reverse r.outer.items) r.statement) e h.1)
   where
-    on : (q : State) → ScriptShows (state_script q) r.nodes r.top → PhaseShows q phases.Items r.nodes r.level (reverse r.outer.items) r.statement → (d : Script) × (q ≡ items d) × ScriptShows d r.nodes r.top
+    on : (q : State) → Held (state_script q) r → PhaseShows q phases.Items r.nodes r.level (reverse r.outer.items) r.statement → (d : Script) × (q ≡ items d) × Held d r
     on (items d) a b = (d, refl, a)
     on _ a b = absurd b
 
--- where the reader wants a statement, the tokens are a script that it shows
-pub found : (ts : List Token) (r : Reader) → r.phase ≡ phases.Items → Leads ts r → (d : Script) × IsScript ts d × ScriptShows d r.nodes r.top
-found ts r e (s, h, g) = on (items_shown s r g e)
+-- where the reader wants a statement and keeps the names, the tokens are a script that it shows
+pub found : (ts : List Token) (r : Reader) (keeps : Bool) → r.phase ≡ phases.Items → ((s : Script) → Held s r → IsTrue keeps ↔ KeepsNames s) → keeps ≡ true → Leads ts r → (d : Script) × IsScript ts d × ScriptShows d r.nodes r.top
+found ts r keeps e k t (s, h, g) = on (items_shown s r g e)
   where
-    on : (d : Script) × (s ≡ items d) × ScriptShows d r.nodes r.top → (d : Script) × IsScript ts d × ScriptShows d r.nodes r.top
-    on (d, q, k) = (d, read_script ts d (h ∙ ap (λ x. Some x) q), k)
+    on : (d : Script) × (s ≡ items d) × Held d r → (d : Script) × IsScript ts d × ScriptShows d r.nodes r.top
+    on (d, q, held) = (d, read_script ts d (h ∙ ap (λ x. Some x) q) ((k d held).0 t), held.0)
 
-pub tree : (ts : List Token) (r : Reader) → r.phase ≡ phases.Items → Leads ts r → IsTree r.nodes r.top
-tree ts r e h = let f : (d : Script) × IsScript ts d × ScriptShows d r.nodes r.top = found ts r e h in (f.0, f.1.fine, f.2)
+pub tree : (ts : List Token) (r : Reader) (keeps : Bool) → r.phase ≡ phases.Items → ((s : Script) → Held s r → IsTrue keeps ↔ KeepsNames s) → keeps ≡ true → Leads ts r → IsTree r.nodes r.top
+tree ts r keeps e k t h = let f : (d : Script) × IsScript ts d × ScriptShows d r.nodes r.top = found ts r keeps e k t h in (f.0, f.1.fine, f.2, f.1.keeps)
 
--- and each script of these tokens
+-- each script of these tokens is what it holds
+holds : (ts : List Token) (r : Reader) → Leads ts r → (d : Script) → IsScript ts d → Held d r
+holds ts r (s, h, g) d is = let q : s ≡ items d = (let w = script_read ts d is in cc) in let k : Shows (items d) r = subst (λ z. Shows z r) q g in k.0
+
 pub gives : (ts : List Token) (r : Reader) → Leads ts r → (d : Script) → IsScript ts d → ScriptShows d r.nodes r.top
-gives ts r (s, h, g) d is = let q : s ≡ items d = (let w = script_read ts d is in cc) in let k : Shows (items d) r = subst (λ z. Shows z r) q g in k.0.0
+gives ts r h d is = let held : Held d r = holds ts r h d is in held.0
+
+-- where it doesn't keep the names, there is no script
+pub keeps_none : (ts : List Token) (r : Reader) (keeps : Bool) → ((s : Script) → Held s r → IsTrue keeps ↔ KeepsNames s) → keeps ≡ false → Leads ts r → (d : Script) → IsScript ts d → ⊥
+keeps_none ts r keeps k f h d is = let t : keeps ≡ true = (k d (holds ts r h d is)).1 is.keeps in cc
 
 -- elsewhere there is no script
 pub ends_none : (ts : List Token) (r : Reader) → (r.phase ≡ phases.Items → ⊥) → Leads ts r → (d : Script) → IsScript ts d → ⊥

@@ -1,15 +1,17 @@
 -- What the machine has read is what its state spells.
 use Rattle.std.specs.Prelude.{◌≡◌, ℕ, List, [], ◌∷◌, ◌++◌, Option, Some, None, Bool, true, false, cond, nat_lt, refl}
 use Rattle.std.specs.Str.{bytes_eq}
-use Rattle.std.proofs.Common.{sym, ◌∙◌, ap}
+use Rattle.std.proofs.Common.{sym, ◌∙◌, ap, append_assoc}
 use Rattle.std.proofs.lemmas.Slice.Eq.{bytes_eq-Decides}
 use Rattle.host_lexer.specs.declared.token.Word.TheVariants as words
 use Rattle.host_lexer.specs.declared.token.Mark.{Mark}
 use Rattle.host_lexer.specs.declared.token.Mark.TheVariants as marks
 use Rattle.host_lexer.specs.declared.token.TokenKind.{TokenKind}
 use Rattle.host_lexer.specs.declared.token.TokenKind.TheVariants as kinds
-use Rattle.host_parser.specs.Grammar.{Sum, Product, Factor, Script, Arguments, Sign, at, name, factor_then, sum_then, product_then, listed_then, script_then, declared_by, most_open, print_name}
-use Rattle.host_parser.specs.Machine.{BeforeSum, no_sum, sum_before, BeforeProduct, no_product, product_before, BeforeListed, no_listed, listed_before, Level, level, fresh, Outer, in_let, in_print, in_parens, State, items, let_begun, let_named, print_begun, argument, printed, want, have, product_with, sum_with, listed_with, sum_of, script_of, open_in, is_known, named, opened, wanted, closed, parted, ended, marked, had, next_item, let_name, let_value, print_opened, argued, print_ended, step, run, before_sum_then, before_product_then, before_listed_then, level_then, state_then}
+use Rattle.host_parser.specs.declared.instance.Piece.{Piece}
+use Rattle.host_parser.specs.Grammar.{Sum, Product, Factor, Script, Instance, Arguments, Sign, at, name, factor_then, sum_then, product_then, listed_then, passed_then, script_then, declared_by, bound_by, most_open, print_name}
+use Rattle.host_parser.specs.Pieces.{fits}
+use Rattle.host_parser.specs.Machine.{BeforeSum, no_sum, sum_before, BeforeProduct, no_product, product_before, BeforeListed, no_listed, listed_before, Level, level, fresh, Outer, in_let, in_print, in_parens, in_call, State, items, let_begun, let_named, let_equals, before_file, after_file, instanced, print_begun, argument, printed, want, called, passing, have, product_with, sum_with, listed_with, passed_with, sum_of, script_of, open_in, is_known, named, opened, wanted, call_opened, pass, closed, parted, ended, marked, had, next_item, let_name, let_value, valued, file_named, export_named, bind_ended, equals_then, print_opened, argued, print_ended, step, run, before_sum_then, before_product_then, before_listed_then, level_then, state_then}
 
 product_with_then : (m : BeforeProduct) (f : Factor) (y : List Sign) → product_then (product_with m f) y ≡ before_product_then m (factor_then f y)
 product_with_then no_product f y = refl
@@ -23,6 +25,10 @@ listed_with_then : (a : BeforeListed) (e : Sum) (y : List Sign) → listed_then 
 listed_with_then no_listed e y = refl
 listed_with_then (listed_before l k) e y = refl
 
+passed_with_then : (a : BeforeListed) (y : List Sign) → passed_then (passed_with a) y ≡ before_listed_then a y
+passed_with_then no_listed y = refl
+passed_with_then (listed_before l k) y = refl
+
 pub sum_of_then : (l : Level) (f : Factor) (y : List Sign) → sum_then (sum_of l f) y ≡ level_then l (factor_then f y)
 sum_of_then (level a m) f y = sum_with_then a (product_with m f) y ∙ ap (before_sum_then a) (product_with_then m f y)
 
@@ -32,11 +38,12 @@ Spells None f t = Unit {0}
 Spells (Some r) f t = (y : List Sign) → state_then r y ≡ f (t ∷ y)
 
 named_spells : (l : Level) (outer : Outer) (k : ℕ) (w : List ℕ) → Spells (named l outer k w) (state_then (want l outer)) (at (kinds.Name w) k)
-named_spells l outer k w = on (is_known (declared_by (script_of outer)) w)
+named_spells l outer k w = on (is_known (bound_by (script_of outer)) w) (is_known (declared_by (script_of outer)) w)
   where
-    on : (b : Bool) → Spells (cond b (Some (have (name w k) l outer)) None) (state_then (want l outer)) (at (kinds.Name w) k)
-    on true = λ y. refl
-    on false = tt
+    on : (b c : Bool) → Spells (cond b (Some (called w k l outer)) (cond c (Some (have (name w k) l outer)) None)) (state_then (want l outer)) (at (kinds.Name w) k)
+    on true c = λ y. refl
+    on false true = λ y. refl
+    on false false = tt
 
 opened_spells : (l : Level) (outer : Outer) (k : ℕ) → Spells (opened l outer k) (state_then (want l outer)) (at (kinds.Mark marks.Open) k)
 opened_spells l outer k = on (nat_lt (open_in outer) most_open)
@@ -52,13 +59,27 @@ wanted_spells l outer k (kinds.Name w) = named_spells l outer k w
 wanted_spells l outer k (kinds.Mark marks.Open) = opened_spells l outer k
 wanted_spells l outer k _ = tt
 
+call_opened_spells : (w : List ℕ) (p : ℕ) (l : Level) (outer : Outer) (k : ℕ) (t : TokenKind) → Spells (call_opened w p l outer k t) (state_then (called w p l outer)) (at t k)
+call_opened_spells w p l outer k (kinds.Mark marks.Open) = on (nat_lt (open_in outer) most_open)
+  where
+    on : (b : Bool) → Spells (cond b (Some (passing w p k no_listed l outer)) None) (state_then (called w p l outer)) (at (kinds.Mark marks.Open) k)
+    on true = λ y. refl
+    on false = tt
+call_opened_spells w p l outer k _ = tt
+
+pass_spells : (w : List ℕ) (p o : ℕ) (a : BeforeListed) (l : Level) (outer : Outer) (k : ℕ) (t : TokenKind) → Spells (pass w p o a l outer k t) (state_then (passing w p o a l outer)) (at t k)
+pass_spells w p o a l outer k (kinds.Mark marks.Close) = λ y. simp passed_with_then
+pass_spells w p o a l outer k t = wanted_spells fresh (in_call w p o a l outer) k t
+
 closed_spells : (f : Factor) (l : Level) (outer : Outer) (k : ℕ) → Spells (closed f l outer k) (state_then (have f l outer)) (at (kinds.Mark marks.Close) k)
 closed_spells f l (in_parens o m outer) k = λ y. simp sum_of_then
+closed_spells f l (in_call w p o a m outer) k = λ y. simp (listed_with_then, sum_of_then)
 closed_spells f l (in_print s p o a) k = λ y. simp (listed_with_then, sum_of_then)
 closed_spells f l (in_let s t w n q) k = tt
 
 parted_spells : (f : Factor) (l : Level) (outer : Outer) (k : ℕ) → Spells (parted f l outer k) (state_then (have f l outer)) (at (kinds.Mark marks.Comma) k)
 parted_spells f l (in_print s p o a) k = λ y. simp (listed_with_then, sum_of_then)
+parted_spells f l (in_call w p o a m outer) k = λ y. simp (listed_with_then, sum_of_then)
 parted_spells f l _ k = tt
 
 ended_spells : (f : Factor) (l : Level) (outer : Outer) (k : ℕ) → Spells (ended f l outer k) (state_then (have f l outer)) (at (kinds.Mark marks.Semicolon) k)
@@ -100,6 +121,41 @@ let_value_spells : (s : Script) (l : ℕ) (w : List ℕ) (n k : ℕ) (t : TokenK
 let_value_spells s l w n k (kinds.Mark marks.Equals) = λ y. refl
 let_value_spells s l w n k _ = tt
 
+valued_spells : (s : Script) (l : ℕ) (w : List ℕ) (n q k : ℕ) (t : TokenKind) → Spells (valued s l w n q k t) (state_then (let_equals s l w n q)) (at t k)
+valued_spells s l w n q k (kinds.Word words.New) = λ y. refl
+valued_spells s l w n q k t = wanted_spells fresh (in_let s l w n q) k t
+
+-- one more token of an instance
+read_on : (s : Script) (l : ℕ) (w : List ℕ) (n q : ℕ) (read : List Sign) (t : Sign) (y : List Sign) → equals_then s l w n q ((read ++ t ∷ []) ++ y) ≡ equals_then s l w n q (read ++ t ∷ y)
+read_on s l w n q read t y = ap (equals_then s l w n q) (append_assoc read (t ∷ []) y)
+
+file_named_spells : (s : Script) (l : ℕ) (w : List ℕ) (n q : ℕ) (read : List Sign) (left : List Piece) (k : ℕ) (t : TokenKind) → Spells (file_named s l w n q read left k t) (state_then (before_file s l w n q read left)) (at t k)
+file_named_spells s l w n q read (p ∷ left) k t = on (fits p t)
+  where
+    on : (b : Bool) → Spells (cond b (Some (before_file s l w n q (read ++ at t k ∷ []) left)) None) (state_then (before_file s l w n q read (p ∷ left))) (at t k)
+    on true = λ y. read_on s l w n q read (at t k) y
+    on false = tt
+file_named_spells s l w n q read [] k (kinds.Text file) = λ y. read_on s l w n q read (at (kinds.Text file) k) y
+file_named_spells s l w n q read [] k _ = tt
+
+export_named_spells : (s : Script) (l : ℕ) (w : List ℕ) (n q : ℕ) (file : List ℕ) (read : List Sign) (left : List Piece) (k : ℕ) (t : TokenKind)
+    → Spells (export_named s l w n q file read left k t) (state_then (after_file s l w n q file read left)) (at t k)
+export_named_spells s l w n q file read (p ∷ left) k t = on (fits p t)
+  where
+    on : (b : Bool) → Spells (cond b (Some (after_file s l w n q file (read ++ at t k ∷ []) left)) None) (state_then (after_file s l w n q file read (p ∷ left))) (at t k)
+    on true = λ y. read_on s l w n q read (at t k) y
+    on false = tt
+export_named_spells s l w n q file read [] k (kinds.Name e) = on (bytes_eq e print_name)
+  where
+    on : (b : Bool) → Spells (cond b None (Some (instanced s l w n q (record { file = file; export = e; tokens = read ++ at (kinds.Name e) k ∷ [] })))) (state_then (after_file s l w n q file read [])) (at (kinds.Name e) k)
+    on true = tt
+    on false = λ y. read_on s l w n q read (at (kinds.Name e) k) y
+export_named_spells s l w n q file read [] k _ = tt
+
+bind_ended_spells : (s : Script) (l : ℕ) (w : List ℕ) (n q : ℕ) (i : Instance) (k : ℕ) (t : TokenKind) → Spells (bind_ended s l w n q i k t) (state_then (instanced s l w n q i)) (at t k)
+bind_ended_spells s l w n q i k (kinds.Mark marks.Semicolon) = λ y. refl
+bind_ended_spells s l w n q i k _ = tt
+
 print_opened_spells : (s : Script) (p k : ℕ) (t : TokenKind) → Spells (print_opened s p k t) (state_then (print_begun s p)) (at t k)
 print_opened_spells s p k (kinds.Mark marks.Open) = λ y. refl
 print_opened_spells s p k _ = tt
@@ -116,10 +172,16 @@ pub steps_spell : (s : State) (t : Sign) → Spells (step s t) (state_then s) t
 steps_spell (items s) t = next_item_spells s t.place t.kind
 steps_spell (let_begun s l) t = let_name_spells s l t.place t.kind
 steps_spell (let_named s l w n) t = let_value_spells s l w n t.place t.kind
+steps_spell (let_equals s l w n q) t = valued_spells s l w n q t.place t.kind
+steps_spell (before_file s l w n q read left) t = file_named_spells s l w n q read left t.place t.kind
+steps_spell (after_file s l w n q file read left) t = export_named_spells s l w n q file read left t.place t.kind
+steps_spell (instanced s l w n q i) t = bind_ended_spells s l w n q i t.place t.kind
 steps_spell (print_begun s p) t = print_opened_spells s p t.place t.kind
 steps_spell (argument s p o) t = argued_spells s p o t.place t.kind
 steps_spell (printed s p o a c) t = print_ended_spells s p o a c t.place t.kind
 steps_spell (want l outer) t = wanted_spells l outer t.place t.kind
+steps_spell (called w p l outer) t = call_opened_spells w p l outer t.place t.kind
+steps_spell (passing w p o a l outer) t = pass_spells w p o a l outer t.place t.kind
 steps_spell (have f l outer) t = had_spells f l outer t.place t.kind
 
 -- a run that ends in r spells what r spells

@@ -7,7 +7,7 @@ use Rattle.host_parser.specs.declared.script.Operand.{Operand}
 use Rattle.host_parser.specs.declared.script.Form.{Form}
 use Rattle.host_parser.specs.declared.script.Form.TheVariants as forms
 use Rattle.host_parser.specs.declared.script.Node.{Node}
-use Rattle.host_parser.specs.Grammar.{Additive, plus, minus, Sum, product, added, Product, factor, times, Factor, number, text, name, parens, Listed, single, comma, Arguments, none, listed, Script, nothing, declaration, printing, IsFine}
+use Rattle.host_parser.specs.Grammar.{Additive, plus, minus, Sum, product, added, Product, factor, times, Factor, number, text, name, parens, call, Listed, single, comma, Passed, unlisted, passed, passed_more, Arguments, none, listed, Instance, Script, nothing, declaration, binding, printing, IsFine, KeepsNames}
 
 -- the table has such a node at this number and place
 abbrev pub AtNode : List Node → ℕ → ℕ → (Form → Type 0) → Type 0
@@ -29,9 +29,17 @@ abbrev pub IsChain : (List Operand → ℕ → Type 0) → Form → Type 0
 IsChain F (forms.Chain left last) = F left last.0
 IsChain F _ = ⊥
 
+abbrev pub IsCall : List ℕ → (List NodeId → Type 0) → Form → Type 0
+IsCall w F (forms.Call v arguments) = (v ≡ w) × F arguments
+IsCall w F _ = ⊥
+
 abbrev pub IsLet : List ℕ → (ℕ → Type 0) → Form → Type 0
 IsLet w F (forms.Let v value) = (v ≡ w) × F value.0
 IsLet w F _ = ⊥
+
+abbrev pub IsBind : List ℕ → Instance → Form → Type 0
+IsBind w i (forms.Bind v file export) = (v ≡ w) × (file ≡ i.file) × (export ≡ i.export)
+IsBind w i _ = ⊥
 
 abbrev pub IsPrint : (List NodeId → Type 0) → Form → Type 0
 IsPrint F (forms.Print arguments) = F arguments
@@ -40,6 +48,11 @@ IsPrint F _ = ⊥
 -- the list is one element after another list
 abbrev pub EndsIn : {A : Type 0} → List A → (List A → A → Type 0) → Type 0
 EndsIn {A} xs F = (front : List A) × (x : A) × (xs ≡ front ++ x ∷ []) × F front x
+
+-- each of these numbers is less than another
+abbrev pub AreBelow : List NodeId → ℕ → Type 0
+AreBelow [] id = Unit {0}
+AreBelow (x ∷ xs) id = (x.0 < id) × AreBelow xs id
 
 abbrev pub operator_of : Additive → Operator
 operator_of plus = operators.Plus
@@ -77,10 +90,16 @@ abbrev mutual
   FactorShows (text s k) nodes id = AtNode nodes id k (IsText s)
   FactorShows (name w k) nodes id = AtNode nodes id k (IsName w)
   FactorShows (parens o e c) nodes id = SumShows e nodes id
+  FactorShows (call w k o a c) nodes id = AtNode nodes id o (IsCall w (λ arguments. PassedShow a nodes arguments × AreBelow arguments id))
 
-abbrev pub ListedShows : Listed → List Node → List NodeId → Type 0
-ListedShows (single e) nodes ids = (x : NodeId) × (ids ≡ x ∷ []) × SumShows e nodes x.0
-ListedShows (comma l k e) nodes ids = EndsIn ids (λ front x. ListedShows l nodes front × SumShows e nodes x.0)
+  pub ListedShows : Listed → List Node → List NodeId → Type 0
+  ListedShows (single e) nodes ids = (x : NodeId) × (ids ≡ x ∷ []) × SumShows e nodes x.0
+  ListedShows (comma l k e) nodes ids = EndsIn ids (λ front x. ListedShows l nodes front × SumShows e nodes x.0)
+
+  pub PassedShow : Passed → List Node → List NodeId → Type 0
+  PassedShow unlisted nodes ids = ids ≡ []
+  PassedShow (passed l) nodes ids = ListedShows l nodes ids
+  PassedShow (passed_more l k) nodes ids = ListedShows l nodes ids
 
 abbrev pub ArgumentsShow : Arguments → List Node → List NodeId → Type 0
 ArgumentsShow none nodes ids = ids ≡ []
@@ -90,8 +109,9 @@ ArgumentsShow (listed l) nodes ids = ListedShows l nodes ids
 abbrev pub ScriptShows : Script → List Node → List NodeId → Type 0
 ScriptShows nothing nodes ids = ids ≡ []
 ScriptShows (declaration s l w n q e c) nodes ids = EndsIn ids (λ front x. ScriptShows s nodes front × AtNode nodes x.0 l (IsLet w (λ value. SumShows e nodes value)))
+ScriptShows (binding s l w n q i c) nodes ids = EndsIn ids (λ front x. ScriptShows s nodes front × AtNode nodes x.0 l (IsBind w i))
 ScriptShows (printing s p o a c e) nodes ids = EndsIn ids (λ front x. ScriptShows s nodes front × AtNode nodes x.0 p (IsPrint (λ arguments. ArgumentsShow a nodes arguments)))
 
 -- a table and the numbers of statements are those of some script with no fault
 abbrev pub IsTree : List Node → List NodeId → Type 0
-IsTree nodes top = (d : Script) × IsFine d × ScriptShows d nodes top
+IsTree nodes top = (d : Script) × IsFine d × ScriptShows d nodes top × KeepsNames d

@@ -2,6 +2,7 @@
 #![tactic(auto)]
 
 mod chain;
+mod instance;
 mod parser;
 mod reader;
 mod script;

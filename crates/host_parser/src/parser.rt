@@ -1,6 +1,5 @@
 //! From the tokens of a script to its tree.
 ghost use Rattle.std.specs.Prelude.{◌≡◌, IfOk};
-ghost use Rattle.host_lexer.specs.Tokens.{InOrder};
 ghost use Rattle.host_parser.specs.Grammar as grammar;
 ghost use Rattle.host_parser.specs.Grammar.{IsScript};
 ghost use Rattle.host_parser.specs.Shows.{ScriptShows};
@@ -14,7 +13,6 @@ use std::alloc::Global;
 /// The tree of the script that the tokens spell (ECMA-262, sections 13 to 16). `len` is the length of its text. The time
 /// that it takes grows linearly with the number of tokens and of their bytes.
 pub fn parse(alloc: Global, tokens: &[Token], len: u32) -> Result<Script, ParseError>
-    requires { InOrder 0 len tokens.now }
 
     // What is found is the tree of a script with these tokens.
     ensures found { IfOk result (λ s. (d : grammar.Script) × IsScript tokens.now d × ScriptShows d s.nodes s.top) }
@@ -24,21 +22,15 @@ pub fn parse(alloc: Global, tokens: &[Token], len: u32) -> Result<Script, ParseE
 
     ensures len { IfOk result (λ s. s.len ≡ len) }
 {
-    read(alloc, tokens, len)
-}
-
-// The same of any tokens, in order or not.
-fn read(alloc: Global, tokens: &[Token], len: u32) -> Result<Script, ParseError>
-    ensures found { IfOk result (λ s. (d : grammar.Script) × IsScript tokens.now d × ScriptShows d s.nodes s.top) }
-    ensures only { (d : grammar.Script) → IsScript tokens.now d → Gives result d }
-    ensures len { IfOk result (λ s. s.len ≡ len) }
-{
     let mut reader = Reader::new(alloc);
     for token in tokens {
         let went = reader.step(alloc, token)?;
         if !went {
             return Err(ParseError::NotYet);
         }
+    }
+    if !reader.keeps_names() {
+        return Err(ParseError::NotYet);
     }
     let Reader {
         nodes,

@@ -32,13 +32,29 @@ pub enum Form {
     Text(PlainString),
     Name(PlainString),
     Chain(PlainList<Operand>, NodeId),
+    /// `CALLEE(ARGUMENTS)`
+    Call {
+        callee: PlainString,
+        arguments: PlainList<NodeId>,
+    },
     /// `let NAME = VALUE;`
-    Let { name: PlainString, value: NodeId },
+    Let {
+        name: PlainString,
+        value: NodeId,
+    },
+    /// `let NAME = new WebAssembly.Instance(new WebAssembly.Module(readbuffer("FILE"))).exports.EXPORT;`
+    Bind {
+        name: PlainString,
+        file: PlainString,
+        export: PlainString,
+    },
     /// `print(ARGUMENTS);`
-    Print { arguments: PlainList<NodeId> },
+    Print {
+        arguments: PlainList<NodeId>,
+    },
 }
 
-/// A node, and its place: the byte of a chain's first operator, or of another form's first token.
+/// A node, and its place: the byte of a chain's first operator, of a call's `(`, or of another form's first token.
 #[derive(Debug, Drop)]
 pub struct Node {
     pub form: Form,

@@ -1,7 +1,15 @@
-use Rattle.host_parser.proofs.Steps.{popped, closes_parens}
+use Rattle.std.proofs.Common.{◌∙◌, ap, ◌++◌, ◌∷◌, []}
+use Rattle.host_parser.specs.declared.reader.Outer.TheVariants as outers
+use Rattle.host_parser.specs.Machine as machine
+use Rattle.host_parser.proofs.Steps.{from_closed, if_ok}
 use Rattle.host_parser.proofs.reader.Reader.close.Goals as goal
 
-pub returns : goal.returns
-returns c = λ k f l outer h hf hl ho. closes_parens outer f l k c.args.self.now c.close_level.new.nodes c.pop.new.self c.replace-level.new.dest c.in_ok-sum.sum
-    c.in_ok-sum.ensures.grown (c.in_ok-sum.ensures.shown l f (rw c.replace-level.ensures.value hl) hf) h
-    (rw c.replace-level.ensures.after (popped outer c.args.self.now.nodes c.args.self.now.outer.items c.pop.new.self.items c.in-Some.outside c.args.self.now.statement c.in-Some.ensures.items ho))
+pub returns-in-Parens : goal.returns-in-Parens
+returns-in-Parens c = if_ok c.close_parens.result _ _ c.close_parens.ensures (λ went w k.
+    from_closed (λ f l outer. machine.closed f l outer k) c.args.operand (outers.Parens c.in-Parens.outside) c.args.self.now c.pop.new.self went c.close_parens.new.self
+    (c.in-Some.ensures.items ∙ ap (λ z. c.pop.new.self.items ++ z ∷ []) c.in-Parens.is) (w k))
+
+pub returns-in-Call : goal.returns-in-Call
+returns-in-Call c = if_ok c.close_call.result _ _ c.close_call.ensures (λ went w k.
+    from_closed (λ f l outer. machine.closed f l outer k) c.args.operand (outers.Call c.in-Call.outside c.in-Call.call) c.args.self.now c.pop.new.self went c.close_call.new.self
+    (c.in-Some.ensures.items ∙ ap (λ z. c.pop.new.self.items ++ z ∷ []) c.in-Call.is) (w k))

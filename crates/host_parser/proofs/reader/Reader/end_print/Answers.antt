@@ -14,6 +14,7 @@ returns-in_ok-push-in-Mark-Semicolon c = λ o a k ha s h alone.
           prints s c.args.place o a k c.args.token.now.from c.args.self.now.nodes c.add.new.nodes c.args.self.now.top c.push.new.self c.args.arguments c.in_ok-id-in-Mark-Semicolon.id
               ha c.in_ok-id-in-Mark-Semicolon.ensures.id c.in_ok-id-in-Mark-Semicolon.ensures.nodes c.in_ok-push-in-Mark-Semicolon.ensures.ok h.0,
           h.1,
+          h.2,
         ),
         alone,
       ),
