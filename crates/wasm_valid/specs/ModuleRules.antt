@@ -25,16 +25,14 @@ use Rattle.wasm_syntax.specs.declared.module.Elem.{Elem}
 use Rattle.wasm_syntax.specs.declared.module.Data.{Data}
 use Rattle.wasm_syntax.specs.declared.module.Module.{Module}
 use Rattle.wasm_valid.specs.Spaces.{when, then_, func_type, funcs_of, tables_of, mems_of, globals_of, imported_globals_of, same_type, is_reference}
+use Rattle.wasm_valid.specs.Sorts.{nesting_of, blocks_in}
 use Rattle.wasm_valid.specs.Typing.{is_typed_body}
 
 -- The numbering of the blocks.
 
 -- the blocks that stand in an instruction, in order
 abbrev pub nested_in : Instr → List BlockId
-nested_in (i.Block bt id) = id ∷ []
-nested_in (i.Loop bt id) = id ∷ []
-nested_in (i.If bt id other) = id ∷ other ∷ []
-nested_in _ = []
+nested_in i = blocks_in (nesting_of i)
 
 -- the numbers of a block and of those nested in it, at most d deep, in the order in which they end
 abbrev pub ends_in : Module → ℕ → BlockId → List ℕ

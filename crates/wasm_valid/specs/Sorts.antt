@@ -1,10 +1,12 @@
 -- The sorts of the instructions.
-use Rattle.std.specs.Prelude.{Option, Some, None}
+use Rattle.std.specs.Prelude.{Option, Some, None, true, false, List, [], ◌∷◌}
+use Rattle.wasm_syntax.specs.declared.instructions.BlockId.{BlockId}
 use Rattle.wasm_syntax.specs.declared.types.ValType.TheVariants as v
 use Rattle.wasm_syntax.specs.declared.instructions.Instr.{Instr}
 use Rattle.wasm_syntax.specs.declared.instructions.Instr.TheVariants as i
 use Rattle.wasm_valid.specs.declared.sorts.Sort.{Sort}
 use Rattle.wasm_valid.specs.declared.sorts.Sort.TheVariants as s
+use Rattle.wasm_valid.specs.declared.sorts.Nesting.{Nesting}
 
 -- the sort of an instruction that has one type: neither control, nor one that takes operands of several types or of a list of types
 abbrev pub sort_of : Instr → Option Sort
@@ -131,3 +133,19 @@ sort_of i.Drop = None
 sort_of i.Select = None
 sort_of (i.SelectTyped ts) = None
 sort_of i.RefIsNull = None
+
+-- the blocks that an instruction holds: a body, and in an `if` another one; a branch to a loop goes to its start again
+abbrev pub nesting_of : Instr → Option Nesting
+nesting_of (i.Block bt id) = Some (record { ty = bt; body = id; other = None; again = false })
+nesting_of (i.Loop bt id) = Some (record { ty = bt; body = id; other = None; again = true })
+nesting_of (i.If bt id other) = Some (record { ty = bt; body = id; other = Some other; again = false })
+nesting_of _ = None
+
+abbrev pub second_of : Option BlockId → List BlockId
+second_of None = []
+second_of (Some id) = id ∷ []
+
+-- the blocks that stand in an instruction, in order
+abbrev pub blocks_in : Option Nesting → List BlockId
+blocks_in None = []
+blocks_in (Some n) = n.body ∷ second_of n.other

@@ -15,8 +15,9 @@ use Rattle.wasm_syntax.specs.declared.module.Elem.{Elem}
 use Rattle.wasm_syntax.specs.declared.module.Module.{Module}
 use Rattle.wasm_valid.specs.declared.sorts.Sort.{Sort}
 use Rattle.wasm_valid.specs.declared.sorts.Sort.TheVariants as s
+use Rattle.wasm_valid.specs.declared.sorts.Nesting.{Nesting}
 use Rattle.wasm_valid.specs.Spaces.{when, then_, func_type, tables_of, globals_of, block_type, has_memory, same_type, is_reference, is_declared}
-use Rattle.wasm_valid.specs.Sorts.{sort_of}
+use Rattle.wasm_valid.specs.Sorts.{sort_of, nesting_of}
 use Rattle.wasm_valid.specs.Operands.{Operands, Taken, anything, exactly, take_any, take_one, take_all, put, exchange, leaves, select_of, is_spent, ends_with}
 
 -- what a place of a body sees beside its module: the locals, the labels with their types, the innermost first, and the results
@@ -106,39 +107,65 @@ abbrev pub holds_functions : Option TableType → Bool
 holds_functions None = false
 holds_functions (Some table) = same_type table.elem v.FuncRef
 
--- the operands after an instruction without a sort: 3.3.8 control, 3.3.2 is_null, 3.3.4 drop and select
-abbrev pub after_other : Blocks → Module → Context → Instr → Operands → Option Operands
-after_other b m c i.Unreachable s = Some anything
-after_other b m c (i.Block bt id) s = then_ (block_type m bt) (λ (g : FuncType). when (b (with_label g.results c) id g) (calls g s))
-after_other b m c (i.Loop bt id) s = then_ (block_type m bt) (λ (g : FuncType). when (b (with_label g.params c) id g) (calls g s))
-after_other b m c (i.If bt id other) s =
-    then_ (block_type m bt) (λ (g : FuncType). then_ (take_one v.I32 s) (λ rest.
-    when (b (with_label g.results c) id g && b (with_label g.results c) other g) (calls g rest)))
-after_other b m c (i.Br l) s = then_ (slice_get c.labels l) (λ ts. leaves (reverse ts) s)
-after_other b m c (i.BrIf l) s = then_ (slice_get c.labels l) (λ ts. then_ (take_one v.I32 s) (exchange (reverse ts) (reverse ts)))
-after_other b m c (i.BrTable ls l) s = then_ (slice_get c.labels l) (λ ts. then_ (take_one v.I32 s) (after_table c ls ts))
-after_other b m c i.Return s = leaves (reverse c.results) s
-after_other b m c (i.Call x) s = then_ (func_type m x) (λ g. calls g s)
-after_other b m c (i.CallIndirect x y) s =
+-- the operands after an instruction without a sort that holds no blocks: 3.3.8 control, 3.3.2 is_null, 3.3.4 drop and select
+abbrev pub after_other : Module → Context → Instr → Operands → Option Operands
+after_other m c i.Unreachable s = Some anything
+after_other m c (i.Br l) s = then_ (slice_get c.labels l) (λ ts. leaves (reverse ts) s)
+after_other m c (i.BrIf l) s = then_ (slice_get c.labels l) (λ ts. then_ (take_one v.I32 s) (exchange (reverse ts) (reverse ts)))
+after_other m c (i.BrTable ls l) s = then_ (slice_get c.labels l) (λ ts. then_ (take_one v.I32 s) (after_table c ls ts))
+after_other m c i.Return s = leaves (reverse c.results) s
+after_other m c (i.Call x) s = then_ (func_type m x) (λ g. calls g s)
+after_other m c (i.CallIndirect x y) s =
     when (holds_functions (slice_get (tables_of m) y)) (then_ (slice_get m.types x) (λ g. then_ (take_one v.I32 s) (calls g)))
-after_other b m c i.Drop s = then_ (take_any s) (λ taken. Some taken.rest)
-after_other b m c i.Select s =
+after_other m c i.Drop s = then_ (take_any s) (λ taken. Some taken.rest)
+after_other m c i.Select s =
     then_ (take_one v.I32 s) (λ rest. then_ (take_any rest) (λ second. then_ (take_any second.rest) (λ first.
-    then_ (select_of first.type second.type) (λ u. Some (put (u ∷ []) first.rest)))))
-after_other b m c (i.SelectTyped ts) s = after_select ts s
-after_other b m c i.RefIsNull s = then_ (take_any s) (λ taken. when (fits_reference taken.type) (Some (put (Some v.I32 ∷ []) taken.rest)))
-after_other b m c _ s = None
+        then_ (select_of first.type second.type) (λ u. Some (put (u ∷ []) first.rest)))))
+after_other m c (i.SelectTyped ts) s = after_select ts s
+after_other m c i.RefIsNull s = then_ (take_any s) (λ taken. when (fits_reference taken.type) (Some (put (Some v.I32 ∷ []) taken.rest)))
+after_other m c _ s = None
 
 abbrev pub after_sort : Module → Context → Sort → Operands → Option Operands
 after_sort m c sort s = then_ (signature m c sort) (λ g. exchange g.takes g.gives s)
 
-abbrev pub after_by : Option Sort → Blocks → Module → Context → Instr → Operands → Option Operands
-after_by (Some sort) b m c i s = after_sort m c sort s
-after_by None b m c i s = after_other b m c i s
+abbrev pub by_sort : Option Sort → Module → Context → Instr → Operands → Option Operands
+by_sort (Some sort) m c i s = after_sort m c sort s
+by_sort None m c i s = after_other m c i s
+
+-- the operands after an instruction that holds no blocks
+abbrev pub after_flat : Module → Context → Instr → Operands → Option Operands
+after_flat m c i s = by_sort (sort_of i) m c i s
+
+-- a branch to a loop goes to its start, and to another block behind its end
+abbrev pub label_of : Bool → FuncType → List ValType
+label_of true g = g.params
+label_of false g = g.results
+
+-- an `if`, which has a second block, takes a test
+abbrev pub tested : Option BlockId → Operands → Option Operands
+tested None s = Some s
+tested (Some id) s = take_one v.I32 s
+
+abbrev pub other_is : (BlockId → Bool) → Option BlockId → Bool
+other_is b None = true
+other_is b (Some id) = b id
+
+-- 3.3.8: a block, a loop or an if. Each block that it holds has its type
+abbrev pub holding : Blocks → Context → Nesting → FuncType → Operands → Option Operands
+holding b c n g s =
+    let inner = with_label (label_of n.again g) c in
+    when (b inner n.body g && other_is (λ id. b inner id g) n.other) (calls g s)
+
+abbrev pub after_nested : Blocks → Module → Context → Nesting → Operands → Option Operands
+after_nested b m c n s = then_ (block_type m n.ty) (λ g. then_ (tested n.other s) (holding b c n g))
+
+abbrev pub by_nesting : Option Nesting → Blocks → Module → Context → Instr → Operands → Option Operands
+by_nesting (Some n) b m c i s = after_nested b m c n s
+by_nesting None b m c i s = after_flat m c i s
 
 -- the operands after an instruction
 abbrev pub after : Blocks → Module → Context → Instr → Operands → Option Operands
-after b m c i s = after_by (sort_of i) b m c i s
+after b m c i s = by_nesting (nesting_of i) b m c i s
 
 -- the operands after a list of instructions
 abbrev pub after_all : Blocks → Module → Context → List Instr → Operands → Option Operands
@@ -194,31 +221,33 @@ is_typed_body m f = typed_as (slice_get m.types f.ty) m f
 abbrev pub Heights : Type 0
 Heights = Context → BlockId → FuncType → ℕ
 
-abbrev pub count_at : Option Operands → (Operands → ℕ) → ℕ
+abbrev pub count_at : {A : Type 0} → Option A → (A → ℕ) → ℕ
 count_at None f = 0
-count_at (Some s) f = f s
+count_at (Some a) f = f a
+
+abbrev pub other_height : (BlockId → ℕ) → Option BlockId → ℕ
+other_height h None = 0
+other_height h (Some id) = h id
 
 -- a nested block stands on the operands that it doesn't take
-abbrev pub height_on : ℕ → FuncType → Operands → ℕ
-height_on n g s = count_at (take_all (reverse g.params) s) (λ rest. length rest.types + n)
+abbrev pub height_on : Heights → Context → Nesting → FuncType → Operands → ℕ
+height_on h c n g s =
+    let inner = with_label (label_of n.again g) c in
+    length s.types + max (h inner n.body g) (other_height (λ id. h inner id g) n.other)
 
-abbrev pub height_of : Option FuncType → (FuncType → ℕ) → ℕ
-height_of None f = 0
-height_of (Some g) f = f g
+abbrev pub nested_height : Heights → Module → Context → Nesting → Operands → ℕ
+nested_height h m c n s =
+    count_at (block_type m n.ty) (λ g. count_at (tested n.other s) (λ rest. count_at (take_all (reverse g.params) rest) (height_on h c n g)))
 
 -- the greatest number of operands within the blocks of an instruction
-abbrev pub height_within : Heights → Module → Context → Instr → Operands → ℕ
-height_within h m c (i.Block bt id) s = height_of (block_type m bt) (λ g. height_on (h (with_label g.results c) id g) g s)
-height_within h m c (i.Loop bt id) s = height_of (block_type m bt) (λ g. height_on (h (with_label g.params c) id g) g s)
-height_within h m c (i.If bt id other) s =
-    height_of (block_type m bt) (λ g. count_at (take_one v.I32 s) (λ rest.
-    height_on (max (h (with_label g.results c) id g) (h (with_label g.results c) other g)) g rest))
-height_within h m c _ s = 0
+abbrev pub height_within : Option Nesting → Heights → Module → Context → Operands → ℕ
+height_within (Some n) h m c s = nested_height h m c n s
+height_within None h m c s = 0
 
 -- the greatest number of operands at any place of a list of instructions
 abbrev pub height_all : Heights → Blocks → Module → Context → List Instr → Operands → ℕ
 height_all h b m c [] s = length s.types
-height_all h b m c (i ∷ is) s = max (length s.types) (max (height_within h m c i s) (count_at (after b m c i s) (height_all h b m c is)))
+height_all h b m c (i ∷ is) s = max (length s.types) (max (height_within (nesting_of i) h m c s) (count_at (after b m c i s) (height_all h b m c is)))
 
 -- the same of a block: at its end it has its results
 abbrev pub block_height : Module → ℕ → Heights

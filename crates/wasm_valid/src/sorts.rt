@@ -1,6 +1,8 @@
 //! The sorts of instructions that have one type each (WebAssembly Core 2.0, sections 3.3.1 to 3.3.7).
 
-use wasm_syntax::ValType;
+ghost use Rattle.std.specs.Prelude.{◌≡◌};
+
+use wasm_syntax::{BlockId, BlockType, Instr, ValType};
 
 /// What an instruction with a type of its own does to the operands, in the standard's words: `I32Add` is a binary operation of
 /// i32, `I64Load32S` a load of 2^2 bytes for an i64.
@@ -37,4 +39,15 @@ pub enum Sort {
     TableFill(u32),
     RefNull(ValType),
     RefFunc(u32),
+}
+
+/// A `block`, a `loop` or an `if`: its type, and the blocks that it holds.
+#[derive(Clone, Copy, PartialEq, Eq, Debug)]
+pub struct Nesting {
+    pub ty: BlockType,
+    pub body: BlockId,
+    /// The second block of an `if`.
+    pub other: Option<BlockId>,
+    /// Whether it is a loop, so that a branch goes to its start.
+    pub again: bool,
 }
