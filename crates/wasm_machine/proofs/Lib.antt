@@ -1,0 +1,4 @@
+pub mod Acts
+pub mod Flowing
+pub mod Locals
+pub mod Invoking

@@ -1,0 +1,5 @@
+pub mod Terms
+pub mod Reduction
+pub mod Small
+pub mod Frames
+pub mod Invocations

@@ -1,0 +1,4 @@
+//! The validator of WebAssembly modules (WebAssembly Core 2.0, chapter 3).
+#![tactic(auto)]
+
+mod sorts;
