@@ -4,8 +4,8 @@ use Rattle.std.specs.declared.alloc.AllocError.{AllocError}
 use Rattle.host_parser.specs.declared.script.Script.{Script as Tree}
 use Rattle.host_parser.specs.Grammar.{Script}
 use Rattle.host_parser.specs.Shows.{ScriptShows}
-use Rattle.embed_cmd.specs.declared.transcript.Transcript.{Transcript}
-use Rattle.embed_cmd.specs.Outcome.{outcome_of, transcript_of}
+use Rattle.embed_script.specs.declared.transcript.Transcript.{Transcript}
+use Rattle.embed_script.specs.Outcome.{outcome_of, transcript_of}
 use Rattle.embed_base.specs.Counts.{RoseByMore}
 use Rattle.embed_cmd.specs.declared.words.Asked.{Asked}
 use Rattle.embed_cmd.specs.Transcript.{Contents, AskedFile, IsOfSome, IsAsked, files_of, first_long, IsTheAskedTranscript, IsScriptText, IsScriptTranscript, IsTheScriptTranscript, refused, too_long}

@@ -5,9 +5,9 @@ use Rattle.embed_base.specs.declared.status.Status.TheVariants as statuses
 use Rattle.host_lexer.specs.declared.token.Token.{Token}
 use Rattle.host_lexer.specs.Tokens.{HasTokens}
 use Rattle.host_parser.specs.Grammar.{Script, IsScript}
-use Rattle.embed_cmd.specs.declared.transcript.Transcript.{Transcript}
+use Rattle.embed_script.specs.declared.transcript.Transcript.{Transcript}
 use Rattle.embed_cmd.specs.declared.words.Asked.{Asked}
-use Rattle.embed_cmd.specs.Outcome.{outcome_of, transcript_of}
+use Rattle.embed_script.specs.Outcome.{outcome_of, transcript_of}
 use Rattle.embed_cmd.specs.Words.{command_of}
 
 -- the bytes of a script, at most

@@ -8,11 +8,10 @@ ghost use Rattle.embed_cmd.specs.Reading.{IsTree, IsScriptEnd, IsTranscriptEnd, 
 ghost use Rattle.embed_cmd.specs.Headline.{with_more, OnEnd, OnReadFault, OnWriteFault, OnNoMemory, OnUsage, OnTooLongStatus, UnlessReadFault, UnlessWriteFault, WritesAll, WritesPrefix, IsReadFault, IsTooLong, IsTooLongOf};
 
 use crate::asked_files::{Unread, read_asked};
-use crate::run::run_script;
-use crate::transcript::Transcript;
 use crate::words::{Asked, read_words};
 use crate::write::write_whole;
 use embed_base::{Files, PlainString, Sink, SinkError, Status};
+use embed_script::{Transcript, run_script};
 use host_lexer::{LexError, tokens};
 use host_parser::{ParseError, Script, parse};
 use std::alloc::{AllocError, Global};

@@ -7,6 +7,8 @@ use std::alloc::Global;
 use std::str;
 use std::test::Fail;
 
+mod charges;
+
 // The words of a command line.
 fn owned(alloc: Global, words: &[&str]) -> Result<Vec<String>, Fail> {
     let mut all = Vec::new(alloc);

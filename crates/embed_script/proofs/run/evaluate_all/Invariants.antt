@@ -1,0 +1,11 @@
+-- The values so far, and those of the expressions that are left, are the values of all.
+use Rattle.std.proofs.Common.{List, drop}
+use Rattle.host_parser.specs.Grammar.{Sum}
+use Rattle.embed_script.specs.Evaluation.{Bindings}
+use Rattle.embed_script.specs.Tasks.{IsBoundAs}
+use Rattle.embed_script.specs.Runs.{SumsShow}
+use Rattle.embed_script.proofs.Lines.{ValuesLeft}
+use Rattle.embed_script.proofs.run.evaluate_all.Given as goal
+
+abbrev pub invariant-loop-id : goal.invariant-loop-id
+invariant-loop-id l = (b : Bindings) → IsBoundAs b l.names → (es : List Sum) → SumsShow l.nodes es l.ids → ValuesLeft l.nodes b es (drop l.id-index l.ids) l.values.items
