@@ -1,6 +1,7 @@
--- What the tasks of a node give: an operand its value, and a chain what its operands and operators give.
-use Rattle.std.proofs.Common.{◌≡◌, ℕ, suc, ◌+◌, ◌<◌, List, [], ◌∷◌, ◌++◌, Option, Some, Ok, Err, IsSomeAnd, slice_get, length, reverse, take, get_or, refl, sym, ap, ◌∙◌, subst, append_assoc, pos}
-use Rattle.std.proofs.lemmas.List.{take_more, reverse-append}
+-- What the tasks of a node give: an operand its value, and a chain or a call what its parts give.
+use Rattle.std.proofs.Common.{◌≡◌, ℕ, suc, ◌+◌, ◌-◌, ◌<◌, ◌≤◌, List, [], ◌∷◌, ◌++◌, Option, Some, Ok, Err, IsSomeAnd, slice_get, length, map, reverse, take, drop, get_or, refl, sym, ap, ◌∙◌, subst, append_assoc, pos, arith}
+use Rattle.std.proofs.lemmas.List.{take_more, reverse-append, reverse-reverse, length-reverse, map-append}
+use Rattle.std.proofs.Math.Seq.{take-append_seam, drop-append_seam}
 use Rattle.host_parser.specs.declared.script.NodeId.{NodeId}
 use Rattle.host_parser.specs.declared.script.Operator.{Operator}
 use Rattle.host_parser.specs.declared.script.Operator.TheVariants as operators
@@ -8,15 +9,17 @@ use Rattle.host_parser.specs.declared.script.Operand.{Operand}
 use Rattle.host_parser.specs.declared.script.Form.{Form}
 use Rattle.host_parser.specs.declared.script.Form.TheVariants as forms
 use Rattle.host_parser.specs.declared.script.Node.{Node}
-use Rattle.host_parser.specs.Grammar.{Additive, Sum, product, added, Product, factor, times, Factor, number, text, name, parens}
-use Rattle.host_parser.specs.Shows.{AtNode, IsNumber, IsText, IsName, IsChain, operator_of, SumShows, SumLeft, ProductShows, ProductLeft, FactorShows, sum_place, product_place}
+use Rattle.host_parser.specs.Grammar.{Additive, Sum, product, added, Product, factor, times, Factor, number, text, name, parens, call, Listed, single, comma, Passed, unlisted, passed, passed_more}
+use Rattle.host_parser.specs.Shows.{AtNode, IsNumber, IsText, IsName, IsChain, IsCall, AreBelow, operator_of, SumShows, SumLeft, ProductShows, ProductLeft, FactorShows, ListedShows, PassedShow, sum_place, product_place}
 use Rattle.embed_script.specs.declared.value.Value.{Value}
 use Rattle.embed_script.specs.declared.value.Value.TheVariants as values
 use Rattle.embed_script.specs.declared.evaluate.Task.{Task}
 use Rattle.embed_script.specs.declared.evaluate.Task.TheVariants as tasks
 use Rattle.embed_script.specs.Operators.{number_of}
-use Rattle.embed_script.specs.Evaluation.{Bindings, Answer, sum_value, product_value, factor_value, and_then, operated, at_place, named}
-use Rattle.embed_script.specs.Tasks.{Todo, evaluates, applies, perform, Fits, TodosShow, chain_tasks, following_tasks, AllBefore}
+use Rattle.embed_script.specs.Ends.{and_then, at_place, keeping}
+use Rattle.embed_script.specs.Evaluation.{Bindings, Answer, Answers, sum_value, product_value, factor_value, listed_values, passed_values, operated, named, called}
+use Rattle.embed_script.specs.Tasks.{Todo, evaluates, applies, calls, perform, Fits, TodosShow, TodoShows, SumsShow, listed_expressions, passed_expressions, values_of, chain_tasks, following_tasks, call_tasks, AllBefore}
+use Rattle.embed_script.proofs.Values.{before, passed_are, values_count, listed_show, passed_show, sums_count}
 
 -- the operands and operators of a chain
 abbrev sum_todos : Sum → List Todo
@@ -27,26 +30,83 @@ abbrev product_todos : Product → List Todo
 product_todos (factor f) = evaluates (product (factor f)) ∷ []
 product_todos (times m k f) = product_todos m ++ evaluates (product (factor f)) ∷ applies operators.Times k ∷ []
 
-after_both : (x y : Answer) (f : Value → Value → Answer) (g : Value → Answer)
-    → and_then x (λ v. and_then y (λ w. and_then (f v w) g)) ≡ and_then (and_then x (λ v. and_then y (λ w. f v w))) g
-after_both (Ok v) (Ok w) f g = refl
-after_both (Ok v) (Err o) f g = refl
-after_both (Err o) y f g = refl
+after_second : (y : Answer) (f : Value × ℕ → Answer) (g : Value × ℕ → Answer) → and_then y (λ w. and_then (f w) g) ≡ and_then (and_then y f) g
+after_second (Ok w) f g = refl
+after_second (Err e) f g = refl
+
+after_both : (x : Answer) (y : ℕ → Answer) (f : Value → Value → ℕ → Answer) (g : Value × ℕ → Answer)
+    → and_then x (λ v. and_then (y v.1) (λ w. and_then (f v.0 w.0 w.1) g)) ≡ and_then (and_then x (λ v. and_then (y v.1) (λ w. f v.0 w.0 w.1))) g
+after_both (Ok v) y f g = after_second (y v.1) (λ w. f v.0 w.0 w.1) g
+after_both (Err e) y f g = refl
 
 -- they give what the expression gives
-sum_unrolls : (b : Bindings) (e : Sum) (rest : List Todo) (vs : List Value) → perform b (sum_todos e ++ rest) vs ≡ and_then (sum_value b e) (λ v. perform b rest (v ∷ vs))
-sum_unrolls b (product m) rest vs = refl
-sum_unrolls b (added a o k m) rest vs =
-    ap (λ ts. perform b ts vs) (append_assoc (sum_todos a) (evaluates (product m) ∷ applies (operator_of o) k ∷ []) rest)
-    ∙ sum_unrolls b a (evaluates (product m) ∷ applies (operator_of o) k ∷ rest) vs
-    ∙ after_both (sum_value b a) (product_value b m) (operated (operator_of o) k) (λ u. perform b rest (u ∷ vs))
+sum_unrolls : (b : Bindings) (e : Sum) (rest : List Todo) (vs : List Value) (left : ℕ) → perform b (sum_todos e ++ rest) vs left ≡ and_then (sum_value b e left) (λ v. perform b rest (v.0 ∷ vs) v.1)
+sum_unrolls b (product m) rest vs left = refl
+sum_unrolls b (added a o k m) rest vs left =
+    ap (λ ts. perform b ts vs left) (append_assoc (sum_todos a) (evaluates (product m) ∷ applies (operator_of o) k ∷ []) rest)
+    ∙ sum_unrolls b a (evaluates (product m) ∷ applies (operator_of o) k ∷ rest) vs left
+    ∙ after_both (sum_value b a left) (product_value b m) (operated (operator_of o) k) (λ u. perform b rest (u.0 ∷ vs) u.1)
 
-product_unrolls : (b : Bindings) (m : Product) (rest : List Todo) (vs : List Value) → perform b (product_todos m ++ rest) vs ≡ and_then (product_value b m) (λ v. perform b rest (v ∷ vs))
-product_unrolls b (factor f) rest vs = refl
-product_unrolls b (times m k f) rest vs =
-    ap (λ ts. perform b ts vs) (append_assoc (product_todos m) (evaluates (product (factor f)) ∷ applies operators.Times k ∷ []) rest)
-    ∙ product_unrolls b m (evaluates (product (factor f)) ∷ applies operators.Times k ∷ rest) vs
-    ∙ after_both (product_value b m) (factor_value b f) (operated operators.Times k) (λ u. perform b rest (u ∷ vs))
+product_unrolls : (b : Bindings) (m : Product) (rest : List Todo) (vs : List Value) (left : ℕ) → perform b (product_todos m ++ rest) vs left ≡ and_then (product_value b m left) (λ v. perform b rest (v.0 ∷ vs) v.1)
+product_unrolls b (factor f) rest vs left = refl
+product_unrolls b (times m k f) rest vs left =
+    ap (λ ts. perform b ts vs left) (append_assoc (product_todos m) (evaluates (product (factor f)) ∷ applies operators.Times k ∷ []) rest)
+    ∙ product_unrolls b m (evaluates (product (factor f)) ∷ applies operators.Times k ∷ rest) vs left
+    ∙ after_both (product_value b m left) (factor_value b f) (operated operators.Times k) (λ u. perform b rest (u.0 ∷ vs) u.1)
+
+-- the arguments of a call, and the call
+abbrev call_todos : List ℕ → ℕ → List Sum → List Todo
+call_todos w k es = map evaluates es ++ calls w k (length es) ∷ []
+
+on_top : (v : Value) (ws vs : List Value) → reverse ws ++ (v ∷ vs) ≡ reverse (v ∷ ws) ++ vs
+on_top v ws vs = sym (ap (λ xs. xs ++ vs) (reverse-append (v ∷ []) ws) ∙ append_assoc (reverse ws) (v ∷ []) vs)
+
+one_more : (y : Answers) (v : Value) (vs : List Value) (f : List Value → ℕ → Answer) → and_then y (λ x. f (reverse x.0 ++ (v ∷ vs)) x.1) ≡ and_then (before v y) (λ x. f (reverse x.0 ++ vs) x.1)
+one_more (Ok x) v vs f = ap (λ xs. f xs x.1) (on_top v x.0 vs)
+one_more (Err e) v vs f = refl
+
+first_value : (x : Answer) (g : ℕ → Answers) (vs : List Value) (f : List Value → ℕ → Answer) (p : List Value → ℕ → Answer) → ((ws : List Value) (n : ℕ) → p ws n ≡ and_then (g n) (λ y. f (reverse y.0 ++ ws) y.1))
+    → and_then x (λ v. p (v.0 ∷ vs) v.1) ≡ and_then (and_then x (λ v. before v.0 (g v.1))) (λ y. f (reverse y.0 ++ vs) y.1)
+first_value (Ok v) g vs f p h = h (v.0 ∷ vs) v.1 ∙ one_more (g v.1) v.0 vs f
+first_value (Err e) g vs f p h = refl
+
+values_unroll : (b : Bindings) (es : List Sum) (rest : List Todo) (vs : List Value) (left : ℕ) → perform b (map evaluates es ++ rest) vs left ≡ and_then (values_of b es left) (λ x. perform b rest (reverse x.0 ++ vs) x.1)
+values_unroll b [] rest vs left = refl
+values_unroll b (e ∷ es) rest vs left = first_value (sum_value b e left) (values_of b es) vs (perform b rest) (perform b (map evaluates es ++ rest)) (values_unroll b es rest)
+
+-- the last values of a list, taken off
+off_top : (xs vs : List Value) (n : ℕ) → length xs ≡ n → (reverse (take n (reverse xs ++ vs)) ≡ xs) × (drop n (reverse xs ++ vs) ≡ vs)
+off_top xs vs n is =
+    let same : length (reverse xs) ≡ n = length-reverse xs ∙ is in
+    (
+      ap (λ i. reverse (take i (reverse xs ++ vs))) (sym same) ∙ ap reverse (take-append_seam (reverse xs) vs) ∙ reverse-reverse xs,
+      ap (λ i. drop i (reverse xs ++ vs)) (sym same) ∙ drop-append_seam (reverse xs) vs,
+    )
+
+call_on_top : (y : Answers) (n : ℕ) (vs : List Value) (g : List Value → ℕ → Answer) (p : List Value → ℕ → Answer) → ((x : List Value × ℕ) → y ≡ Ok x → length x.0 ≡ n)
+    → and_then y (λ x. and_then (g (reverse (take n (reverse x.0 ++ vs))) x.1) (λ u. p (u.0 ∷ drop n (reverse x.0 ++ vs)) u.1)) ≡ and_then (and_then y (λ x. g x.0 x.1)) (λ u. p (u.0 ∷ vs) u.1)
+call_on_top (Ok x) n vs g p h =
+    let off = off_top x.0 vs n (h x refl) in
+    ap (λ xs. and_then (g xs x.1) (λ u. p (u.0 ∷ drop n (reverse x.0 ++ vs)) u.1)) off.0 ∙ ap (λ ws. and_then (g x.0 x.1) (λ u. p (u.0 ∷ ws) u.1)) off.1
+call_on_top (Err e) n vs g p h = refl
+
+call_unrolls : (b : Bindings) (w : List ℕ) (k : ℕ) (es : List Sum) (rest : List Todo) (vs : List Value) (left : ℕ)
+    → perform b (call_todos w k es ++ rest) vs left ≡ and_then (and_then (values_of b es left) (λ x. called k (b w) x.0 x.1)) (λ v. perform b rest (v.0 ∷ vs) v.1)
+call_unrolls b w k es rest vs left =
+    ap (λ ts. perform b ts vs left) (append_assoc (map evaluates es) (calls w k (length es) ∷ []) rest)
+    ∙ values_unroll b es (calls w k (length es) ∷ rest) vs left
+    ∙ call_on_top (values_of b es left) (length es) vs (called k (b w)) (perform b rest) (λ x is. values_count b es left x is)
+
+values_fit : (es : List Sum) (rest : List Todo) (n : ℕ) → Fits rest (length es + n) → Fits (map evaluates es ++ rest) n
+values_fit [] rest n h = let e : 0 + n ≡ n = omega arith in subst (Fits rest) e h
+values_fit (e ∷ es) rest n h = let same : length (e ∷ es) + n ≡ length es + suc n = omega arith in values_fit es rest (suc n) (subst (Fits rest) same h)
+
+call_fits : (w : List ℕ) (k : ℕ) (es : List Sum) (rest : List Todo) (n : ℕ) → Fits rest (suc n) → Fits (call_todos w k es ++ rest) n
+call_fits w k es rest n h =
+    let P : List Todo → Type 0 = λ ts. Fits ts n in
+    let same : suc n ≡ suc ((length es + n) - length es) = omega arith in
+    let within : length es ≤ length es + n = omega arith in
+    subst P (sym (append_assoc (map evaluates es) (calls w k (length es) ∷ []) rest)) (values_fit es (calls w k (length es) ∷ rest) n (within, subst (Fits rest) same h))
 
 sum_fits : (e : Sum) (rest : List Todo) (n : ℕ) → Fits rest (suc n) → Fits (sum_todos e ++ rest) n
 sum_fits (product m) rest n h = h
@@ -109,30 +169,42 @@ product_left_before : (a : Product) (k : ℕ) (nodes : List Node) (left : List O
 product_left_before (factor g) k nodes left id (x, is, same, here, shows, before) = subst (AllBefore id) (sym is) (before, tt)
 product_left_before (times a j g) k nodes left id (front, x, is, (more, same, here, shows, before)) = subst (AllBefore id) (sym is) (before_append id front x (product_left_before a j nodes front id more) before)
 
--- what a chain's tasks are, and that they give an answer
-pub record ReadsChain (b : Bindings) (nodes : List Node) (id : ℕ) (answer : Answer) (left : List Operand) (last : NodeId) : Type 0 where
+-- tasks that give an answer
+pub record Unrolls (b : Bindings) (nodes : List Node) (answer : ℕ → Answer) (xs : List Task) : Type 0 where
   pub todos : List Todo
-  pub shown : TodosShow nodes todos (chain_tasks left last)
-  pub unrolls : (rest : List Todo) (vs : List Value) → perform b (todos ++ rest) vs ≡ and_then answer (λ v. perform b rest (v ∷ vs))
+  pub shown : TodosShow nodes todos xs
+  pub unrolls : (rest : List Todo) (vs : List Value) (left : ℕ) → perform b (todos ++ rest) vs left ≡ and_then (answer left) (λ v. perform b rest (v.0 ∷ vs) v.1)
   pub fits : (rest : List Todo) (n : ℕ) → Fits rest (suc n) → Fits (todos ++ rest) n
+
+-- what a chain's tasks are, and where its operands stand
+pub record ReadsChain (b : Bindings) (nodes : List Node) (id : ℕ) (answer : ℕ → Answer) (left : List Operand) (last : NodeId) : Type 0 where
+  pub tasks : Unrolls b nodes answer (chain_tasks left last)
   pub before : AllBefore id left
   pub last_before : last.0 < id
 
+-- and a call's
+pub record ReadsCall (b : Bindings) (nodes : List Node) (id : ℕ) (answer : ℕ → Answer) (arguments : List NodeId) : Type 0 where
+  pub tasks : Unrolls b nodes answer (call_tasks arguments (record { 0 = id }))
+  pub before : AreBelow arguments id
+
 -- what an answer is, by the form of the node that shows its expression
-abbrev pub Reads : Bindings → List Node → ℕ → Answer → Form → ℕ → Type 0
-Reads b nodes id answer (forms.Number n) k = answer ≡ at_place k (number_of (pos n))
-Reads b nodes id answer (forms.Text s) k = answer ≡ Ok (values.Text s)
-Reads b nodes id answer (forms.Name w) k = answer ≡ named k (b w)
+abbrev pub Reads : Bindings → List Node → ℕ → (ℕ → Answer) → Form → ℕ → Type 0
+Reads b nodes id answer (forms.Number n) k = (left : ℕ) → answer left ≡ keeping left (at_place k (number_of (pos n)))
+Reads b nodes id answer (forms.Text s) k = (left : ℕ) → answer left ≡ Ok (values.Text s, left)
+Reads b nodes id answer (forms.Name w) k = (left : ℕ) → answer left ≡ keeping left (named k (b w))
 Reads b nodes id answer (forms.Chain left last) k = ReadsChain b nodes id answer left last
+Reads b nodes id answer (forms.Call callee arguments) k = ReadsCall b nodes id answer arguments
 Reads b nodes id answer _ k = ⊥
 
 sum_chain : (b : Bindings) (a : Sum) (o : Additive) (k : ℕ) (m : Product) (nodes : List Node) (id : ℕ) (form : Form) (place : ℕ)
     → IsChain (λ left last. SumLeft a o k nodes left id × ProductShows m nodes last × (last < id)) form → Reads b nodes id (sum_value b (added a o k m)) form place
 sum_chain b a o k m nodes id (forms.Chain left last) place (shows, ends, before) = record {
-  todos = sum_todos (added a o k m);
-  shown = sum_left_shows a o k m nodes left last id shows ends;
-  unrolls = sum_unrolls b (added a o k m);
-  fits = sum_fits (added a o k m);
+  tasks = record {
+    todos = sum_todos (added a o k m);
+    shown = sum_left_shows a o k m nodes left last id shows ends;
+    unrolls = sum_unrolls b (added a o k m);
+    fits = sum_fits (added a o k m);
+  };
   before = sum_left_before a o k nodes left id shows;
   last_before = before;
 }
@@ -141,26 +213,56 @@ sum_chain b a o k m nodes id _ place h = absurd h
 product_chain : (b : Bindings) (a : Product) (k : ℕ) (f : Factor) (nodes : List Node) (id : ℕ) (form : Form) (place : ℕ)
     → IsChain (λ left last. ProductLeft a k nodes left id × FactorShows f nodes last × (last < id)) form → Reads b nodes id (product_value b (times a k f)) form place
 product_chain b a k f nodes id (forms.Chain left last) place (shows, ends, before) = record {
-  todos = product_todos (times a k f);
-  shown = product_left_shows a k f nodes left last id shows ends;
-  unrolls = product_unrolls b (times a k f);
-  fits = product_fits (times a k f);
+  tasks = record {
+    todos = product_todos (times a k f);
+    shown = product_left_shows a k f nodes left last id shows ends;
+    unrolls = product_unrolls b (times a k f);
+    fits = product_fits (times a k f);
+  };
   before = product_left_before a k nodes left id shows;
   last_before = before;
 }
 product_chain b a k f nodes id _ place h = absurd h
 
 number_reads : (b : Bindings) (n k : ℕ) (nodes : List Node) (id : ℕ) (form : Form) (place : ℕ) → place ≡ k → IsNumber n form → Reads b nodes id (factor_value b (number n k)) form place
-number_reads b n k nodes id (forms.Number m) place here is = cc
+number_reads b n k nodes id (forms.Number m) place here is = λ left. ap (λ j. keeping left (at_place j (number_of (pos n)))) (sym here) ∙ ap (λ i. keeping left (at_place place (number_of (pos i)))) (sym is)
 number_reads b n k nodes id _ place here is = absurd is
 
 text_reads : (b : Bindings) (s : List ℕ) (k : ℕ) (nodes : List Node) (id : ℕ) (form : Form) (place : ℕ) → place ≡ k → IsText s form → Reads b nodes id (factor_value b (text s k)) form place
-text_reads b s k nodes id (forms.Text t) place here is = cc
+text_reads b s k nodes id (forms.Text t) place here is = λ left. ap (λ x. Ok (values.Text x, left)) (sym is)
 text_reads b s k nodes id _ place here is = absurd is
 
 name_reads : (b : Bindings) (w : List ℕ) (k : ℕ) (nodes : List Node) (id : ℕ) (form : Form) (place : ℕ) → place ≡ k → IsName w form → Reads b nodes id (factor_value b (name w k)) form place
-name_reads b w k nodes id (forms.Name v) place here is = cc
+name_reads b w k nodes id (forms.Name v) place here is = λ left. ap (λ j. keeping left (named j (b w))) (sym here) ∙ ap (λ x. keeping left (named place (b x))) (sym is)
 name_reads b w k nodes id _ place here is = absurd is
+
+values_show : (nodes : List Node) (es : List Sum) (ids : List NodeId) → SumsShow nodes es ids → TodosShow nodes (map evaluates es) (map tasks.Evaluate ids)
+values_show nodes [] [] h = tt
+values_show nodes (e ∷ es) (id ∷ ids) h = (h.0, values_show nodes es ids h.1)
+values_show nodes [] (id ∷ ids) h = absurd h
+values_show nodes (e ∷ es) [] h = absurd h
+
+call_shown : (nodes : List Node) (id : ℕ) (node : Node) (w : List ℕ) (k : ℕ) (count : ℕ) (arguments : List NodeId) (form : Form) → slice_get nodes id ≡ Some node → node.place ≡ k → node.form ≡ form → IsCall w (λ ids. length ids ≡ count) form
+    → TodoShows nodes (calls w k count) (tasks.Call (record { 0 = id }))
+call_shown nodes id node w k count arguments form at here is shows =
+    subst (λ o. IsSomeAnd o (λ n. (n.place ≡ k) × IsCall w (λ ids. length ids ≡ count) n.form)) (sym at) (here, subst (λ f. IsCall w (λ ids. length ids ≡ count) f) (sym is) shows)
+
+call_reads : (b : Bindings) (w : List ℕ) (k o : ℕ) (a : Passed) (c : ℕ) (nodes : List Node) (id : ℕ) (node : Node) (form : Form) → slice_get nodes id ≡ Some node → node.place ≡ o → node.form ≡ form
+    → IsCall w (λ arguments. PassedShow a nodes arguments × AreBelow arguments id) form → Reads b nodes id (factor_value b (call w k o a c)) form node.place
+call_reads b w k o a c nodes id node (forms.Call callee arguments) at here is (same, (shows, below)) =
+    let es = passed_expressions a in
+    let sums = passed_show a nodes arguments shows in
+    record {
+      tasks = record {
+        todos = call_todos w o es;
+        shown = show_append nodes (map evaluates es) (calls w o (length es) ∷ []) (map tasks.Evaluate arguments) (tasks.Call (record { 0 = id }) ∷ []) (values_show nodes es arguments sums)
+            (call_shown nodes id node w o (length es) arguments (forms.Call callee arguments) at here is (same, sums_count nodes es arguments sums), tt);
+        unrolls = λ rest vs left. call_unrolls b w o es rest vs left ∙ ap (λ r. and_then (and_then r (λ x. called o (b w) x.0 x.1)) (λ v. perform b rest (v.0 ∷ vs) v.1)) (passed_are b a left);
+        fits = λ rest n h. call_fits w o es rest n h;
+      };
+      before = below;
+    }
+call_reads b w k o a c nodes id node _ at here is h = absurd h
 
 -- the node itself, where it is known
 at_node : (nodes : List Node) (id place : ℕ) (F : Form → Type 0) (node : Node) → slice_get nodes id ≡ Some node → AtNode nodes id place F → (node.place ≡ place) × F node.form
@@ -185,6 +287,9 @@ mutual
   reads_factor b (text s k) nodes id node at h = let found = at_node nodes id k (IsText s) node at h in text_reads b s k nodes id node.form node.place found.0 found.1
   reads_factor b (name w k) nodes id node at h = let found = at_node nodes id k (IsName w) node at h in name_reads b w k nodes id node.form node.place found.0 found.1
   reads_factor b (parens o e c) nodes id node at h = reads_sum b e nodes id node at h
+  reads_factor b (call w k o a c) nodes id node at h =
+      let found = at_node nodes id o (IsCall w (λ arguments. PassedShow a nodes arguments × AreBelow arguments id)) node at h in
+      call_reads b w k o a c nodes id node node.form at found.0 refl found.1
 
 -- one operand more on top of the tasks
 pub pushed : (left : List Operand) (n i : ℕ) (d : Operand) (next : NodeId) (old mid new : List Task) → n ≡ i + 1 → i < length left
@@ -198,3 +303,19 @@ pushed left n i d next old mid new at within first second =
     ap (λ ts. chain_tasks (take i left) x.node ++ ts) turned
     ∙ sym (append_assoc (chain_tasks (take i left) x.node) (tasks.Evaluate next ∷ tasks.Operate x.operator x.place ∷ []) (reverse old))
     ∙ ap (λ ts. ts ++ reverse old) (sym (ap (λ xs. chain_tasks xs next) taken ∙ chain_more (take i left) x next))
+
+-- the tasks of a call, with one argument more on top
+pub pushed_argument : (ids : List NodeId) (n i : ℕ) (d task : NodeId) (old new : List Task) → n ≡ i + 1 → i < length ids → new ≡ old ++ tasks.Evaluate (get_or ids i d) ∷ []
+    → map tasks.Evaluate (take i ids) ++ reverse new ≡ map tasks.Evaluate (take n ids) ++ reverse old
+pushed_argument ids n i d task old new at within more =
+    let x : NodeId = get_or ids i d in
+    let taken : take n ids ≡ take i ids ++ x ∷ [] = ap (λ j. take j ids) at ∙ take_more ids i d within in
+    let turned : reverse new ≡ tasks.Evaluate x ∷ reverse old = ap reverse more ∙ reverse-append old (tasks.Evaluate x ∷ []) in
+    ap (λ ts. map tasks.Evaluate (take i ids) ++ ts) turned
+    ∙ sym (append_assoc (map tasks.Evaluate (take i ids)) (tasks.Evaluate x ∷ []) (reverse old))
+    ∙ ap (λ ts. ts ++ reverse old) (sym (ap (λ xs. map tasks.Evaluate xs) taken ∙ map-append tasks.Evaluate (take i ids) (x ∷ [])))
+
+-- the task of a call, on top of the others
+pub call_pushed : (ids : List NodeId) (task : NodeId) (old new : List Task) → new ≡ old ++ tasks.Call task ∷ [] → map tasks.Evaluate ids ++ reverse new ≡ call_tasks ids task ++ reverse old
+call_pushed ids task old new is =
+    ap (λ ts. map tasks.Evaluate ids ++ ts) (ap reverse is ∙ reverse-append old (tasks.Call task ∷ [])) ∙ sym (append_assoc (map tasks.Evaluate ids) (tasks.Call task ∷ []) (reverse old))

@@ -1,53 +1,36 @@
 -- How a run at work stands for the definition's run. No public clause cites this.
-use Rattle.std.specs.Prelude.{◌≡◌, ℕ, ◌-◌, ◌<◌, ◌≤◌, List, [], ◌∷◌, Result, Ok, Err, string_bytes}
-use Rattle.std.specs.declared.alloc.Global.{Global}
-use Rattle.std.specs.declared.vec.Vec.{Vec}
-use Rattle.embed_base.specs.declared.outside.Outside.{Outside}
+use Rattle.std.specs.Prelude.{◌≡◌, ℕ, List, [], ◌∷◌, Result, Ok, Err, IfSome, IsSomeAnd, slice_get, string_bytes}
 use Rattle.host_parser.specs.declared.script.NodeId.{NodeId}
 use Rattle.host_parser.specs.declared.script.Form.{Form}
 use Rattle.host_parser.specs.declared.script.Node.{Node}
-use Rattle.host_parser.specs.Grammar.{Sum}
-use Rattle.host_parser.specs.Shows.{SumShows, IsLet, IsPrint}
-use Rattle.std.specs.Prelude.{IsSomeAnd, slice_get}
-use Rattle.embed_script.specs.declared.value.Value.{Value}
+use Rattle.host_parser.specs.Shows.{SumShows, IsLet, IsBind, IsPrint}
 use Rattle.embed_script.specs.declared.stop.Stop.{Stop}
-use Rattle.embed_script.specs.declared.stop.Stop.TheVariants as stops
 use Rattle.embed_script.specs.declared.run.Run.{Run}
-use Rattle.embed_script.specs.Outcome.{Statement, declares, prints, End, outside, past_budget, Progress, going, ended, text_of_lines}
-use Rattle.embed_script.specs.Tasks.{IsBoundAs}
-
--- these nodes show these expressions
-abbrev pub SumsShow : List Node → List Sum → List NodeId → Type 0
-SumsShow nodes [] [] = Unit {0}
-SumsShow nodes (e ∷ es) (id ∷ ids) = SumShows e nodes id.0 × SumsShow nodes es ids
-SumsShow nodes _ _ = ⊥
+use Rattle.embed_script.specs.Ends.{End}
+use Rattle.embed_script.specs.Outcome.{Statement, declares, binds, prints, Progress, going, ended, text_of_lines}
+use Rattle.embed_script.specs.Stops.{end_of}
+use Rattle.embed_script.specs.Tasks.{IsBoundAs, SumsShow, expressions_of}
 
 -- a form shows a statement
 abbrev pub FormShows : List Node → Statement → Form → Type 0
 FormShows nodes (declares name e) form = IsLet name (λ value. SumShows e nodes value) form
-FormShows nodes (prints es) form = IsPrint (λ ids. SumsShow nodes es ids) form
+FormShows nodes (binds place name i) form = IsBind name i form
+FormShows nodes (prints a) form = IsPrint (λ ids. SumsShow nodes (expressions_of a) ids) form
+
+-- a statement stands at a place, where its place tells something
+abbrev pub IsPlaceOf : Statement → ℕ → Type 0
+IsPlaceOf (binds place name i) k = k ≡ place
+IsPlaceOf _ k = Unit {0}
 
 -- a node shows a statement
 abbrev pub StatementShows : List Node → Statement → NodeId → Type 0
-StatementShows nodes s id = IsSomeAnd (slice_get nodes id.0) (λ node. FormShows nodes s node.form)
+StatementShows nodes s id = IsSomeAnd (slice_get nodes id.0) (λ node. IsPlaceOf s node.place × FormShows nodes s node.form)
 
 -- these nodes show these statements
 abbrev pub StatementsShow : List Node → List Statement → List NodeId → Type 0
 StatementsShow nodes [] [] = Unit {0}
 StatementsShow nodes (s ∷ ss) (id ∷ ids) = StatementShows nodes s id × StatementsShow nodes ss ids
 StatementsShow nodes _ _ = ⊥
-
--- the values of expressions, or their refusal, or want of memory
-abbrev pub MeetsAll : Result (Vec Value Global) Stop → Result (List Value) Outside → Type 0
-MeetsAll (Ok vs) answer = answer ≡ Ok vs.items
-MeetsAll (Err (stops.Outside o)) answer = answer ≡ Err o
-MeetsAll (Err (stops.Budget needs left)) answer = ⊥
-MeetsAll (Err stops.NoMemory) answer = Unit {0}
-
--- a charge was taken from what was left, or is above it
-abbrev pub Charges : {A : Type 0} → Result A Stop → (needs before after : ℕ) → Type 0
-Charges (Ok _) needs before after = (needs ≤ before) × (after ≡ before - needs)
-Charges (Err stop) needs before after = (before < needs) × (stop ≡ stops.Budget needs before) × (after ≡ before)
 
 -- a run has printed these lines
 abbrev pub HasPrinted : List (List ℕ) → Run → Type 0
@@ -67,6 +50,4 @@ pub record EndedBy (progress : Progress) (end : End) (run : Run) : Type 0 where
 -- how a statement's performance answers the definition
 abbrev pub Performs : {A : Type 0} → Result A Stop → Progress → Run → Type 0
 Performs (Ok _) progress run = Stands progress run
-Performs (Err (stops.Outside o)) progress run = EndedBy progress (outside o) run
-Performs (Err (stops.Budget needs left)) progress run = EndedBy progress (past_budget needs left) run
-Performs (Err stops.NoMemory) progress run = Unit {0}
+Performs (Err stop) progress run = IfSome (end_of stop) (λ end. EndedBy progress end run)

@@ -1,5 +1,6 @@
 ghost use Rattle.std.specs.Prelude.{◌≡◌, ◌++◌, OnOk, string_bytes};
-ghost use Rattle.embed_script.specs.Outcome.{end_line, outside, past_budget, place_text};
+ghost use Rattle.embed_script.specs.Ends.{outside, past_budget, compile_error};
+ghost use Rattle.embed_script.specs.Outcome.{end_line, place_text};
 
 use embed_base::{Outside, Place};
 use std::alloc::AllocError;
@@ -24,6 +25,13 @@ pub(crate) fn add_refusal(text: &mut String, refusal: Outside) -> Result<(), All
     add_place(text, refusal.place)?;
     text.push_str("\n")?;
     Ok(())
+}
+
+/// Adds the line that tells that bytes are no valid module.
+pub(crate) fn add_compile_error(text: &mut String) -> Result<(), AllocError>
+    ensures { OnOk result (string_bytes text.new ≡ string_bytes text.old ++ end_line compile_error) }
+{
+    text.push_str("uncaught: CompileError\n")
 }
 
 /// Adds the line that tells a charge above what was left of the budget.

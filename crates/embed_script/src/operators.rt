@@ -2,8 +2,8 @@ ghost use Rattle.std.specs.Prelude.{FitsSigned, ◌≡◌, ◌++◌, ℤ, Some, 
 ghost use Rattle.std.specs.Int.{w64};
 ghost use Rattle.std.specs.Option.{SomeIff};
 ghost use Rattle.embed_script.specs.Values.{shown_of};
-ghost use Rattle.embed_script.specs.Operators.{number_of, text_of};
-ghost use Rattle.embed_script.specs.Evaluation.{at_place, operated};
+ghost use Rattle.embed_script.specs.Operators.{number_of, text_of, operate};
+ghost use Rattle.embed_script.specs.Ends.{at_place};
 ghost use Rattle.embed_script.specs.Stops.{Meets};
 
 use crate::stop::{Stop, refuse};
@@ -61,7 +61,7 @@ pub(crate) fn operate(
     left: Value,
     right: &Value,
 ) -> Result<Value, Stop>
-    ensures { Meets result (operated operator place left right.now) }
+    ensures { Meets result (at_place place (operate operator left right.now)) }
 {
     match operator {
         Operator::Plus => match (&left, right) {

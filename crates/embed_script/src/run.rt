@@ -1,43 +1,47 @@
 ghost use Rattle.std.specs.Prelude.{◌≡◌, ℕ, List, ◌∷◌, ◌++◌, [], Ok, Err, OnOk, IfOk, string_bytes};
 ghost use Rattle.host_parser.specs.Grammar as grammar;
 ghost use Rattle.host_parser.specs.Shows.{SumShows, ScriptShows};
-ghost use Rattle.embed_script.specs.Evaluation.{Bindings, sum_value, values_of};
-ghost use Rattle.embed_script.specs.Outcome.{Statement, going, effect, performed, bind_answer, print_answer, line_of, outcome_of, outcome_of_progress, transcript_of, Progress, done};
-ghost use Rattle.embed_script.specs.Tasks.{IsBoundAs};
-ghost use Rattle.embed_script.specs.Runs.{SumsShow, StatementShows, MeetsAll, HasPrinted, Charges, Performs};
+ghost use Rattle.embed_script.specs.Ends.{done, charge};
+ghost use Rattle.embed_script.specs.Functions.{Modules, instance_of};
+ghost use Rattle.embed_script.specs.Evaluation.{Bindings, value, function, sum_value};
+ghost use Rattle.embed_script.specs.Outcome.{Statement, going, after, bound, effect, performed, line_of, outcome_of, outcome_of_progress, transcript_of, Progress};
+ghost use Rattle.embed_script.specs.Stops.{MeetsAs, listed_values_of};
+ghost use Rattle.embed_script.specs.Tasks.{IsBoundAs, SumsShow, values_of};
+ghost use Rattle.embed_script.specs.ModuleFiles.{AreDecodings};
+ghost use Rattle.embed_script.specs.Runs.{StatementShows, HasPrinted, Performs};
 
-use crate::end_line::{add_charge, add_refusal};
+use crate::charge::{CALL, STATEMENT, charge};
+use crate::end_line::{add_charge, add_compile_error, add_refusal};
 use crate::evaluate::{Names, evaluate};
+use crate::instances::instance;
+use crate::module_file::ModuleFile;
 use crate::stop::Stop;
 use crate::transcript::Transcript;
-use crate::value::Value;
-use embed_base::{Outside, PlainString, Status};
+use crate::value::{Bound, Value};
+use embed_base::{PlainString, Status};
 use host_parser::{Form, Node, NodeId, Script};
 use std::alloc::{AllocError, Global};
 use std::collections::HashMap;
 
-/// The charge of a statement that is begun.
-const STATEMENT: u64 = 1;
-
-/// The charge of a call of `print`.
-const PRINT: u64 = 1;
-
-/// The values of expressions, from left to right.
+/// The values of expressions, from left to right, and what they leave of the budget.
 fn evaluate_all(
     alloc: Global,
     nodes: &[Node],
     names: &Names,
+    budget: u64,
     ids: &[NodeId],
-) -> Result<Vec<Value>, Stop>
+) -> Result<(Vec<Value>, u64), Stop>
     requires { (es : List grammar.Sum) × SumsShow nodes.now es ids.now }
-    ensures { (b : Bindings) → IsBoundAs b names.now → (es : List grammar.Sum) → SumsShow nodes.now es ids.now → MeetsAll result (values_of b es) }
+    ensures { (b : Bindings) → IsBoundAs b names.now → (es : List grammar.Sum) → SumsShow nodes.now es ids.now → MeetsAs listed_values_of result (values_of b es budget) }
 {
     let mut values = Vec::new(alloc);
+    let mut left = budget;
     for id in ids {
-        let value = evaluate(alloc, nodes, names, *id)?;
+        let (value, rest) = evaluate(alloc, nodes, names, left, *id)?;
         values.push(value)?;
+        left = rest;
     }
-    Ok(values)
+    Ok((values, left))
 }
 
 /// Adds a line: the shown forms, with one space between two of them.
@@ -54,7 +58,7 @@ fn add_line(text: &mut String, values: &[Value]) -> Result<(), AllocError>
     Ok(())
 }
 
-/// A run at work: the values of names, what is left of the budget, and the lines printed so far.
+/// A run at work: what names are bound to, what is left of the budget, and the lines printed so far.
 #[derive(Drop)]
 struct Run {
     names: Names,
@@ -63,46 +67,58 @@ struct Run {
 }
 
 impl Run {
-    /// Takes a charge, unless it is above what is left.
-    fn charge(&mut self, needs: u64) -> Result<(), Stop>
-        ensures charges { Charges result needs self.old.left self.new.left }
-        ensures names_stay { self.new.names ≡ self.old.names }
-        ensures text_stays { self.new.text ≡ self.old.text }
-    {
-        if needs > self.left {
-            return Err(Stop::Budget {
-                needs,
-                left: self.left,
-            });
-        }
-        self.left -= needs;
-        Ok(())
-    }
-
     /// `let NAME = VALUE;`
     fn declare(
         &mut self,
         alloc: Global,
         nodes: &[Node],
         name: &PlainString,
-        value: NodeId,
+        initial: NodeId,
     ) -> Result<(), Stop>
-        requires { (e : grammar.Sum) × SumShows e nodes.now value.0 }
-        ensures { (b : Bindings) (lines : List (List ℕ)) → IsBoundAs b self.old.names → HasPrinted lines self.old → (e : grammar.Sum) → SumShows e nodes.now value.0 → Performs result (bind_answer b self.old.left lines name.now (sum_value b e)) self.new }
+        requires { (e : grammar.Sum) × SumShows e nodes.now initial.0 }
+        ensures { (b : Bindings) (lines : List (List ℕ)) → IsBoundAs b self.old.names → HasPrinted lines self.old → (e : grammar.Sum) → SumShows e nodes.now initial.0 → Performs result (after lines (sum_value b e self.old.left) (λ v. going (bound b name.now (value v.0)) v.1 lines)) self.new }
     {
-        let value = evaluate(alloc, nodes, &self.names, value)?;
+        let (value, left) = evaluate(alloc, nodes, &self.names, self.left, initial)?;
         let name = String::from_str(alloc, name.as_str())?;
-        self.names.insert(name, value)?;
+        self.names.insert(name, Bound::Value(value))?;
+        self.left = left;
+        Ok(())
+    }
+
+    /// `let NAME = new WebAssembly.Instance(new WebAssembly.Module(readbuffer(FILE))).exports.EXPORT;`
+    fn bind(
+        &mut self,
+        alloc: Global,
+        files: &[ModuleFile],
+        name: &PlainString,
+        file: &PlainString,
+        export: &PlainString,
+        place: u32,
+    ) -> Result<(), Stop>
+        ensures { (modules : Modules) → AreDecodings files.now modules → (b : Bindings) (lines : List (List ℕ)) → IsBoundAs b self.old.names → HasPrinted lines self.old → Performs result (after lines (instance_of modules file.now export.now place self.old.left) (λ f. going (bound b name.now (function f.0)) f.1 lines)) self.new }
+    {
+        let (function, left) = instance(
+            alloc,
+            files,
+            file.as_str(),
+            export.as_str(),
+            place,
+            self.left,
+        )?;
+        let name = String::from_str(alloc, name.as_str())?;
+        self.names.insert(name, Bound::Function(function))?;
+        self.left = left;
         Ok(())
     }
 
     /// Prints a line, after its charge.
     fn print_line(&mut self, values: &[Value]) -> Result<(), Stop>
-        ensures { (b : Bindings) (lines : List (List ℕ)) → IsBoundAs b self.old.names → HasPrinted lines self.old → Performs result (print_answer b self.old.left lines (Ok values.now)) self.new }
+        ensures { (b : Bindings) (lines : List (List ℕ)) → IsBoundAs b self.old.names → HasPrinted lines self.old → Performs result (after lines (charge 1 self.old.left) (λ rest. going b rest (lines ++ line_of values.now ∷ []))) self.new }
     {
-        match self.charge(PRINT) {
-            Ok(()) => {
+        match charge(CALL, self.left) {
+            Ok(left) => {
                 add_line(&mut self.text, values)?;
+                self.left = left;
                 Ok(())
             }
             Err(stop) => Err(stop),
@@ -112,32 +128,55 @@ impl Run {
     /// `print(ARGUMENTS);`
     fn print(&mut self, alloc: Global, nodes: &[Node], arguments: &[NodeId]) -> Result<(), Stop>
         requires { (es : List grammar.Sum) × SumsShow nodes.now es arguments.now }
-        ensures { (b : Bindings) (lines : List (List ℕ)) → IsBoundAs b self.old.names → HasPrinted lines self.old → (es : List grammar.Sum) → SumsShow nodes.now es arguments.now → Performs result (print_answer b self.old.left lines (values_of b es)) self.new }
+        ensures { (b : Bindings) (lines : List (List ℕ)) → IsBoundAs b self.old.names → HasPrinted lines self.old → (es : List grammar.Sum) → SumsShow nodes.now es arguments.now → Performs result (after lines (values_of b es self.old.left) (λ vs. after lines (charge 1 vs.1) (λ rest. going b rest (lines ++ line_of vs.0 ∷ [])))) self.new }
     {
-        let values = evaluate_all(alloc, nodes, &self.names, arguments)?;
+        let (values, left) = evaluate_all(alloc, nodes, &self.names, self.left, arguments)?;
+        self.left = left;
         self.print_line(values.as_slice())
     }
 
     /// Does what a statement says.
-    fn effect(&mut self, alloc: Global, nodes: &[Node], id: NodeId) -> Result<(), Stop>
+    fn effect(
+        &mut self,
+        alloc: Global,
+        nodes: &[Node],
+        files: &[ModuleFile],
+        id: NodeId,
+    ) -> Result<(), Stop>
         requires { (s : Statement) × StatementShows nodes.now s id }
-        ensures { (b : Bindings) (lines : List (List ℕ)) → IsBoundAs b self.old.names → HasPrinted lines self.old → (s : Statement) → StatementShows nodes.now s id → Performs result (effect b self.old.left lines s) self.new }
+        ensures { (modules : Modules) → AreDecodings files.now modules → (b : Bindings) (lines : List (List ℕ)) → IsBoundAs b self.old.names → HasPrinted lines self.old → (s : Statement) → StatementShows nodes.now s id → Performs result (effect modules b self.old.left lines s) self.new }
     {
         let node = &nodes[id.0];
         match &node.form {
             Form::Let { name, value } => self.declare(alloc, nodes, name, *value),
+            Form::Bind { name, file, export } => {
+                self.bind(alloc, files, name, file, export, node.place)
+            }
             Form::Print { arguments } => self.print(alloc, nodes, arguments.as_slice()),
-            Form::Number(_) | Form::Text(_) | Form::Name(_) | Form::Chain(..) => unreachable!(),
+            Form::Number(_)
+            | Form::Text(_)
+            | Form::Name(_)
+            | Form::Chain(..)
+            | Form::Call { .. } => unreachable!(),
         }
     }
 
     /// Performs a statement.
-    fn perform(&mut self, alloc: Global, nodes: &[Node], id: NodeId) -> Result<(), Stop>
+    fn perform(
+        &mut self,
+        alloc: Global,
+        nodes: &[Node],
+        files: &[ModuleFile],
+        id: NodeId,
+    ) -> Result<(), Stop>
         requires { (s : Statement) × StatementShows nodes.now s id }
-        ensures { (b : Bindings) (lines : List (List ℕ)) → IsBoundAs b self.old.names → HasPrinted lines self.old → (s : Statement) → StatementShows nodes.now s id → Performs result (performed (going b self.old.left lines) s) self.new }
+        ensures { (modules : Modules) → AreDecodings files.now modules → (b : Bindings) (lines : List (List ℕ)) → IsBoundAs b self.old.names → HasPrinted lines self.old → (s : Statement) → StatementShows nodes.now s id → Performs result (performed modules (going b self.old.left lines) s) self.new }
     {
-        match self.charge(STATEMENT) {
-            Ok(()) => self.effect(alloc, nodes, id),
+        match charge(STATEMENT, self.left) {
+            Ok(left) => {
+                self.left = left;
+                self.effect(alloc, nodes, files, id)
+            }
             Err(stop) => Err(stop),
         }
     }
@@ -155,6 +194,13 @@ impl Run {
         } = self;
         match stop {
             Stop::NoMemory => Err(AllocError),
+            Stop::CompileError => {
+                add_compile_error(&mut text)?;
+                Ok(Transcript {
+                    status: Status::Uncaught,
+                    text: PlainString::from_string(text),
+                })
+            }
             Stop::Outside(refusal) => {
                 add_refusal(&mut text, refusal)?;
                 Ok(Transcript {
@@ -192,11 +238,12 @@ impl Run {
 fn perform_all(
     alloc: Global,
     nodes: &[Node],
+    files: &[ModuleFile],
     ids: &[NodeId],
     budget: u64,
 ) -> Result<Transcript, AllocError>
     requires { (d : grammar.Script) × ScriptShows d nodes.now ids.now }
-    ensures { (d : grammar.Script) → ScriptShows d nodes.now ids.now → IfOk result (λ t. t ≡ transcript_of (outcome_of budget d)) }
+    ensures { (d : grammar.Script) → ScriptShows d nodes.now ids.now → (modules : Modules) → AreDecodings files.now modules → IfOk result (λ t. t ≡ transcript_of (outcome_of modules budget d)) }
 {
     let mut run = Run {
         names: HashMap::new(alloc),
@@ -204,7 +251,7 @@ fn perform_all(
         text: String::new(alloc),
     };
     for id in ids {
-        match run.perform(alloc, nodes, *id) {
+        match run.perform(alloc, nodes, files, *id) {
             Ok(()) => {}
             Err(stop) => return run.stopped(stop),
         }
@@ -212,18 +259,20 @@ fn perform_all(
     Ok(run.done())
 }
 
-/// The transcript of a script whose run may take so many units.
+/// The transcript of a script over the module files that it may load, where its run may take so many units.
 pub fn run_script(
     alloc: Global,
     script: &Script,
+    files: &[ModuleFile],
     budget: u64,
 ) -> Result<Transcript, AllocError>
     requires { (d : grammar.Script) × ScriptShows d script.now.nodes script.now.top }
-    ensures { (d : grammar.Script) → ScriptShows d script.now.nodes script.now.top → IfOk result (λ t. t ≡ transcript_of (outcome_of budget d)) }
+    ensures { (d : grammar.Script) → ScriptShows d script.now.nodes script.now.top → (modules : Modules) → AreDecodings files.now modules → IfOk result (λ t. t ≡ transcript_of (outcome_of modules budget d)) }
 {
     perform_all(
         alloc,
         script.nodes.as_slice(),
+        files,
         script.top.as_slice(),
         budget,
     )

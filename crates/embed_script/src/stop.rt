@@ -1,5 +1,5 @@
 ghost use Rattle.std.specs.Prelude.{◌≡◌};
-ghost use Rattle.embed_script.specs.Evaluation.{refused_at};
+ghost use Rattle.embed_script.specs.Ends.{refused_at};
 
 use embed_base::{Outside, OutsideKind, Place};
 use std::alloc::{AllocError, AllocFailed};
@@ -8,6 +8,8 @@ use std::alloc::{AllocError, AllocFailed};
 #[derive(Debug, Drop)]
 pub(crate) enum Stop {
     Outside(Outside),
+    /// An exception that nothing catches: bytes that are no valid module.
+    CompileError,
     /// A charge above what is left of the budget.
     Budget { needs: u64, left: u64 },
     NoMemory,

@@ -1,8 +1,16 @@
 ghost use Rattle.std.specs.Prelude.{◌≡◌, ◌++◌, OnOk, string_bytes};
 ghost use Rattle.embed_script.specs.Values.{shown_of};
 
+use crate::functions::Exported;
 use embed_base::SharedString;
 use std::alloc::AllocError;
+
+/// What a name is bound to.
+#[derive(Debug, Drop)]
+pub(crate) enum Bound {
+    Value(Value),
+    Function(Exported),
+}
 
 /// A value of a script. A text's bytes are shared by its copies.
 #[derive(Debug, Drop)]

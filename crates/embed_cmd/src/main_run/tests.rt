@@ -8,6 +8,7 @@ use std::str;
 use std::test::Fail;
 
 mod charges;
+mod modules;
 
 // The words of a command line.
 fn owned(alloc: Global, words: &[&str]) -> Result<Vec<String>, Fail> {
