@@ -3,7 +3,7 @@ use Rattle.std.proofs.Common.{◌≡◌, ℕ, List, [], ◌∷◌, Option, Some,
 use Rattle.embed_base.specs.Counts.{Rose}
 use Rattle.embed_cmd.specs.declared.main_run.Fault.{Fault}
 use Rattle.embed_cmd.specs.declared.main_run.Fault.TheVariants as faults
-use Rattle.embed_cmd.specs.declared.transcript.Transcript.{Transcript}
+use Rattle.embed_script.specs.declared.transcript.Transcript.{Transcript}
 use Rattle.embed_cmd.specs.declared.words.Asked.{Asked}
 use Rattle.embed_cmd.specs.Words.{command_of}
 use Rattle.embed_cmd.specs.Transcript.{AskedFile, IsOfSome, IsAsked, files_of}

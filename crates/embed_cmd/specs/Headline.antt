@@ -4,7 +4,7 @@ use Rattle.std.specs.Option.{option_map}
 use Rattle.embed_base.specs.declared.status.Status.{Status}
 use Rattle.embed_base.specs.declared.status.Status.TheVariants as statuses
 use Rattle.embed_base.specs.Counts.{Rose, RoseByMore}
-use Rattle.embed_cmd.specs.declared.transcript.Transcript.{Transcript}
+use Rattle.embed_script.specs.declared.transcript.Transcript.{Transcript}
 use Rattle.embed_cmd.specs.Words.{command_of}
 use Rattle.embed_cmd.specs.Transcript.{Contents, AskedFile, IsOfSome, files_of, first_long, IsTheTranscript, Asks}
 

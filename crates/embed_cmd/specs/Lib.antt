@@ -1,10 +1,3 @@
-pub mod Values
-pub mod Operators
-pub mod Evaluation
-pub mod Outcome
-pub mod Stops
-pub mod Tasks
-pub mod Runs
 pub mod Words
 pub mod Sorting
 pub mod Transcript

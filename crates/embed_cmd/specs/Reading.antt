@@ -20,6 +20,7 @@ pub record IsTree (bytes : List ℕ) (tree : Tree) : Type 0 where
 abbrev pub IsScriptEnd : Status → Type 0
 IsScriptEnd statuses.Done = Unit {0}
 IsScriptEnd statuses.ScriptRefused = Unit {0}
+IsScriptEnd statuses.Uncaught = Unit {0}
 IsScriptEnd statuses.Budget = Unit {0}
 IsScriptEnd statuses.Outside = Unit {0}
 IsScriptEnd statuses.TooLong = Unit {0}

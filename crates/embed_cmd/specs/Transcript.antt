@@ -5,9 +5,11 @@ use Rattle.embed_base.specs.declared.status.Status.TheVariants as statuses
 use Rattle.host_lexer.specs.declared.token.Token.{Token}
 use Rattle.host_lexer.specs.Tokens.{HasTokens}
 use Rattle.host_parser.specs.Grammar.{Script, IsScript}
-use Rattle.embed_cmd.specs.declared.transcript.Transcript.{Transcript}
+use Rattle.wasm_grammar.specs.Decoding.{Decodes}
+use Rattle.embed_script.specs.Functions.{Modules}
+use Rattle.embed_script.specs.declared.transcript.Transcript.{Transcript}
 use Rattle.embed_cmd.specs.declared.words.Asked.{Asked}
-use Rattle.embed_cmd.specs.Outcome.{outcome_of, transcript_of}
+use Rattle.embed_script.specs.Outcome.{outcome_of, transcript_of}
 use Rattle.embed_cmd.specs.Words.{command_of}
 
 -- the bytes of a script, at most
@@ -37,9 +39,10 @@ too_long path = record { status = statuses.TooLong; text = codes "too long: " ++
 abbrev pub refused : Transcript
 refused = record { status = statuses.ScriptRefused; text = codes "script: not yet" ++ 10 ∷ [] }
 
--- the transcript of a script's bytes: that of the script's outcome with a budget, or the refusal where they are no script
-abbrev pub IsScriptTranscript : ℕ → List ℕ → Transcript → Type 0
-IsScriptTranscript budget bytes t = ((script : Script) × IsScriptText bytes script × (t ≡ transcript_of (outcome_of budget script))) ⊎ (((script : Script) → ¬ IsScriptText bytes script) × (t ≡ refused))
+-- the transcript of a script's bytes: that of the script's outcome over module files with a budget, or the refusal where they
+-- are no script
+abbrev pub IsScriptTranscript : Modules → (budget : ℕ) → (bytes : List ℕ) → Transcript → Type 0
+IsScriptTranscript modules budget bytes t = ((script : Script) × IsScriptText bytes script × (t ≡ transcript_of (outcome_of modules budget script))) ⊎ (((script : Script) → ¬ IsScriptText bytes script) × (t ≡ refused))
 
 -- what the files tell: the content of each name, where it is told
 abbrev pub Contents : Type 0
@@ -75,9 +78,21 @@ abbrev pub first_long : Contents → List AskedFile → Option (List ℕ)
 first_long contents [] = None
 first_long contents (file ∷ files) = if is_longer file.limit (contents file.path) then Some file.path else first_long contents files
 
+-- these are the modules' names, and what the contents of their files decode to, in the order of the words
+abbrev pub AreDecoded : Contents → (modules : List (List ℕ × List ℕ)) → Modules → Type 0
+AreDecoded contents [] [] = Unit {0}
+AreDecoded contents (m ∷ ms) (d ∷ ds) = (m.0 ≡ d.0) × IsSomeAnd (contents m.1) (λ bytes. Decodes bytes d.1) × AreDecoded contents ms ds
+AreDecoded contents _ _ = ⊥
+
+-- the transcript of a script over what the module files decode to
+pub record IsRunTranscript (asked : Asked) (contents : Contents) (t : Transcript) : Type 0 where
+  pub modules : Modules
+  pub decoded : AreDecoded contents asked.modules modules
+  pub is : IsSomeAnd (contents asked.script) (λ bytes. IsScriptTranscript modules asked.budget bytes t)
+
 -- the transcript of what a command line asks for: of its first file that is too long, or else of its script
 abbrev pub IsAskedTranscript : Asked → Contents → Transcript → Type 0
-IsAskedTranscript asked contents t = MatchOption (first_long contents (files_of asked)) (IsSomeAnd (contents asked.script) (λ bytes. IsScriptTranscript asked.budget bytes t)) (λ path. t ≡ too_long path)
+IsAskedTranscript asked contents t = MatchOption (first_long contents (files_of asked)) (IsRunTranscript asked contents t) (λ path. t ≡ too_long path)
 
 -- the transcript of a command line, where the files tell the contents of what it asks for
 abbrev pub IsTranscript : List (List ℕ) → Contents → Transcript → Type 0
@@ -100,9 +115,9 @@ abbrev pub TellsAll : List (List ℕ) → Contents → Type 0
 TellsAll words contents = (path : List ℕ) → Asks words path → IsSome (contents path)
 
 -- the transcript of a script's bytes, and its only one
-pub record IsTheScriptTranscript (budget : ℕ) (bytes : List ℕ) (t : Transcript) : Type 0 where
-  pub is : IsScriptTranscript budget bytes t
-  pub only : (u : Transcript) → IsScriptTranscript budget bytes u → u ≡ t
+pub record IsTheScriptTranscript (modules : Modules) (budget : ℕ) (bytes : List ℕ) (t : Transcript) : Type 0 where
+  pub is : IsScriptTranscript modules budget bytes t
+  pub only : (u : Transcript) → IsScriptTranscript modules budget bytes u → u ≡ t
 
 -- the transcript of what is asked for, and its only one
 pub record IsTheAskedTranscript (asked : Asked) (contents : Contents) (t : Transcript) : Type 0 where

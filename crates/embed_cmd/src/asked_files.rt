@@ -1,11 +1,12 @@
 ghost use Rattle.std.specs.Prelude.{◌≡◌, ℕ, List, ◌<◌, ◌≤◌, false, Some, None, OnOk, IfOk, IfSome, length};
 ghost use Rattle.embed_base.specs.Counts.{Rose};
 ghost use Rattle.embed_cmd.specs.Transcript.{IsOfSome, IsAsked, is_longer, first_long, files_of, module_files, most_script_bytes};
-ghost use Rattle.embed_cmd.specs.AskedFiles.{OnFailed, UnlessFailed, IfTooLong, IsPast, IsLongPath};
+ghost use Rattle.embed_cmd.specs.AskedFiles.{OnFailed, UnlessFailed, IfTooLong, IsPast, IsLongPath, AreFilesOf};
 
 use crate::words::Asked;
 use embed_base::limits::{MOST_MODULE_BYTES, MOST_SCRIPT_BYTES};
 use embed_base::{FileError, Files, PlainString};
+use embed_script::ModuleFile;
 use std::alloc::{AllocError, AllocFailed, Global};
 
 /// Why the files of a command line weren't all read.
@@ -39,18 +40,11 @@ impl<T: Drop> From<AllocFailed<T>> for Unread {
     }
 }
 
-/// A module's name and the bytes of its file.
-#[derive(Debug, Drop)]
-pub(crate) struct ModuleBytes {
-    pub(crate) name: PlainString,
-    pub(crate) bytes: Vec<u8>,
-}
-
 /// The bytes of the files that a command line asks for.
 #[derive(Debug, Drop)]
 pub(crate) struct AskedBytes {
     pub(crate) script: Vec<u8>,
-    pub(crate) modules: Vec<ModuleBytes>,
+    pub(crate) modules: Vec<ModuleFile>,
 }
 
 /// The bytes of a file.
@@ -88,7 +82,8 @@ fn read_modules<F: Files>(
     alloc: Global,
     files: &mut F,
     modules: &[(PlainString, PlainString)],
-) -> Result<Vec<ModuleBytes>, Unread>
+) -> Result<Vec<ModuleFile>, Unread>
+    ensures named { IfOk result (λ read. AreFilesOf (F.content files.old) modules.now read.items) }
     ensures not_longer { OnOk result (first_long (F.content files.old) (module_files modules.now) ≡ None) }
     ensures too_long { IfTooLong result (λ path. IsLongPath (module_files modules.now) (F.content files.old) (F.taken files.old) (F.taken files.new) path) }
 
@@ -106,7 +101,7 @@ fn read_modules<F: Files>(
         match read_file(alloc, files, module.1.as_str(), MOST_MODULE_BYTES) {
             Ok(bytes) => {
                 let name = PlainString::from_str(alloc, module.0.as_str())?;
-                read.push(ModuleBytes { name, bytes })?;
+                read.push(ModuleFile { name, bytes })?;
             }
             Err(unread) => return Err(unread),
         }
@@ -122,6 +117,7 @@ pub(crate) fn read_asked<F: Files>(
 ) -> Result<AskedBytes, Unread>
     ensures script { IfOk result (λ read. IfSome (F.content files.old asked.now.script) (λ told. read.script.items ≡ told)) }
     ensures within { IfOk result (λ read. length read.script.items ≤ most_script_bytes) }
+    ensures modules { IfOk result (λ read. AreFilesOf (F.content files.old) asked.now.modules read.modules.items) }
     ensures not_longer { OnOk result (first_long (F.content files.old) (files_of asked.now) ≡ None) }
     ensures too_long { IfTooLong result (λ path. IsLongPath (files_of asked.now) (F.content files.old) (F.taken files.old) (F.taken files.new) path) }
 

@@ -3,20 +3,22 @@ ghost use Rattle.embed_base.specs.Counts.{Rose, RoseByMore};
 ghost use Rattle.embed_base.specs.Answers.{OnFailedWrite, UnlessFailedWrite};
 ghost use Rattle.embed_cmd.specs.Words.{command_of, texts_of};
 ghost use Rattle.host_parser.specs.Grammar as grammar;
+ghost use Rattle.embed_script.specs.Functions.{Modules};
+ghost use Rattle.embed_script.specs.ModuleFiles.{AreDecodings};
 ghost use Rattle.embed_cmd.specs.Transcript.{IsScriptText, IsTheScriptTranscript, IsTheAskedTranscript, IsAsked, IsOfSome, files_of, IsTheTranscript, TellsAll, most_script_bytes, too_long, refused, usage};
 ghost use Rattle.embed_cmd.specs.Reading.{IsTree, IsScriptEnd, IsTranscriptEnd, OnRead, UnlessRead};
 ghost use Rattle.embed_cmd.specs.Headline.{with_more, OnEnd, OnReadFault, OnWriteFault, OnNoMemory, OnUsage, OnTooLongStatus, UnlessReadFault, UnlessWriteFault, WritesAll, WritesPrefix, IsReadFault, IsTooLong, IsTooLongOf};
 
 use crate::asked_files::{Unread, read_asked};
-use crate::run::run_script;
-use crate::transcript::Transcript;
 use crate::words::{Asked, read_words};
 use crate::write::write_whole;
 use embed_base::{Files, PlainString, Sink, SinkError, Status};
+use embed_script::{ModuleFile, Transcript, run_script};
 use host_lexer::{LexError, tokens};
 use host_parser::{ParseError, Script, parse};
 use std::alloc::{AllocError, Global};
 use std::str;
+use wasm_grammar::decodes_once;
 
 /// The line that refuses words.
 const USAGE: &str = "usage: jspirun run [--steps N] [--module NAME=PATH]... SCRIPT\n";
@@ -92,15 +94,20 @@ fn read_script(alloc: Global, bytes: &[u8]) -> Result<Option<Script>, AllocError
     }
 }
 
-/// The transcript of a script's bytes, with a budget for its run.
-fn script_transcript(alloc: Global, bytes: &[u8], budget: u64) -> Result<Transcript, AllocError>
+/// The transcript of a script's bytes, over module files and with a budget for its run.
+fn script_transcript(
+    alloc: Global,
+    bytes: &[u8],
+    files: &[ModuleFile],
+    budget: u64,
+) -> Result<Transcript, AllocError>
     requires { length bytes.now ≤ most_script_bytes }
-    ensures exact { IfOk result (λ t. IsTheScriptTranscript budget bytes.now t) }
+    ensures exact { IfOk result (λ t. (modules : Modules) → AreDecodings files.now modules → IsTheScriptTranscript modules budget bytes.now t) }
     ensures end { IfOk result (λ t. IsScriptEnd t.status) }
 {
     match read_script(alloc, bytes)? {
         None => refused(alloc),
-        Some(script) => run_script(alloc, &script, budget),
+        Some(script) => run_script(alloc, &script, files, budget),
     }
 }
 
@@ -121,8 +128,14 @@ fn asked_transcript<F: Files>(
 
     ensures contents_stay { (name : List ℕ) → F.content files.new name ≡ F.content files.old name }
 {
+    decodes_once();
     match read_asked(alloc, files, asked) {
-        Ok(read) => Ok(script_transcript(alloc, read.script.as_slice(), asked.budget)?),
+        Ok(read) => {
+            let modules = read.modules.as_slice();
+            let transcript =
+                script_transcript(alloc, read.script.as_slice(), modules, asked.budget)?;
+            Ok(transcript)
+        }
         Err(Unread::TooLong(path)) => Ok(too_long(alloc, path.as_str())?),
         Err(Unread::Failed) => Err(Fault::Read),
         Err(Unread::NoMemory) => Err(Fault::NoMemory),

@@ -7,6 +7,9 @@ use std::alloc::Global;
 use std::str;
 use std::test::Fail;
 
+mod charges;
+mod modules;
+
 // The words of a command line.
 fn owned(alloc: Global, words: &[&str]) -> Result<Vec<String>, Fail> {
     let mut all = Vec::new(alloc);

@@ -25,78 +25,127 @@ fn told(alloc: Global, words: &[String]) -> Result<String, Fail> {
     Ok(text)
 }
 
+// Each line asks for what is told beside it.
+fn all_read(rt: &HostRuntime, cases: &[(&str, &str)]) -> Result<(), Fail> {
+    for (line, expected) in cases {
+        let words = split(rt.alloc(), line)?;
+        let got = told(rt.alloc(), words.as_slice())?;
+        assert_eq!(rt; got.as_str(), *expected, "at {line}");
+    }
+    Ok(())
+}
+
+// Each line is no command line.
+fn all_refused(rt: &HostRuntime, lines: &[&str]) -> Result<(), Fail> {
+    for line in lines {
+        let words = split(rt.alloc(), line)?;
+        let got = told(rt.alloc(), words.as_slice())?;
+        assert_eq!(rt; got.as_str(), "usage", "at {line}");
+    }
+    Ok(())
+}
+
 #[test]
-fn words_are_read_by_the_rules(rt: HostRuntime) -> Result<(), Fail> {
+fn budgets_are_read(rt: HostRuntime) -> Result<(), Fail> {
     let cases = [
-        ("run|s.js", "s.js 10000000"),
         ("run|s.js|--steps|5", "s.js 5"),
         ("--steps|5|run|s.js", "s.js 5"),
         ("run|--steps|5|s.js", "s.js 5"),
         ("run|s.js|--steps=5", "s.js 5"),
         ("--steps=0|run|s.js", "s.js 0"),
         ("run|s.js|--steps|1000000000000", "s.js 1000000000000"),
-        ("run|s.js|--steps|1000000000001", "usage"),
-        ("run|s.js|--steps=9999999999999", "usage"),
         ("run|s.js|--steps=0000000000007", "s.js 7"),
-        ("run|s.js|--steps=00000000000007", "usage"),
-        ("run|s.js|--steps=", "usage"),
-        ("run|s.js|--steps|", "usage"),
-        ("run|s.js|--steps=+5", "usage"),
-        ("run|s.js|--steps=-1", "usage"),
-        ("run|s.js|--steps|-1", "usage"),
-        ("run|s.js|--steps| 5", "usage"),
-        ("run|s.js|--steps=5x", "usage"),
-        ("run|s.js|--steps=5=6", "usage"),
-        ("run|s.js|--steps", "usage"),
-        ("run|--steps", "usage"),
-        ("run|s.js|--steps|5|--steps|6", "usage"),
-        ("run|s.js|--steps=5|--steps=5", "usage"),
+    ];
+    all_read(&rt, cases.as_slice())
+}
+
+#[test]
+fn faulty_budgets_are_refused(rt: HostRuntime) -> Result<(), Fail> {
+    let lines = [
+        "run|s.js|--steps|1000000000001",
+        "run|s.js|--steps=9999999999999",
+        "run|s.js|--steps=00000000000007",
+        "run|s.js|--steps=",
+        "run|s.js|--steps|",
+        "run|s.js|--steps=+5",
+        "run|s.js|--steps=-1",
+        "run|s.js|--steps|-1",
+        "run|s.js|--steps| 5",
+        "run|s.js|--steps=5x",
+        "run|s.js|--steps=5=6",
+        "run|s.js|--steps",
+        "run|--steps",
+        "run|s.js|--steps|5|--steps|6",
+        "run|s.js|--steps=5|--steps=5",
+        "run|--steps=5",
+        "--steps5|run|s.js",
+    ];
+    all_refused(&rt, lines.as_slice())
+}
+
+#[test]
+fn modules_are_read(rt: HostRuntime) -> Result<(), Fail> {
+    let cases = [
         ("run|s.js|--module|a=b", "s.js 10000000 a:b"),
         ("run|s.js|--module=a=b", "s.js 10000000 a:b"),
-        (
-            "--module|a=b|run|--module=c=d|s.js|--steps|9",
-            "s.js 9 a:b c:d",
-        ),
+        ("--module|a=b|run|--module=c=d|s.js|--steps|9", "s.js 9 a:b c:d"),
         ("run|s.js|--module=a=b=c", "s.js 10000000 a:b=c"),
-        ("run|s.js|--module=a=", "usage"),
-        ("run|s.js|--module==b", "usage"),
-        ("run|s.js|--module=a", "usage"),
-        ("run|s.js|--module=", "usage"),
-        ("run|s.js|--module|", "usage"),
-        ("run|s.js|--module", "usage"),
-        ("run|s.js|--module|-x=p", "usage"),
         ("run|s.js|--module=-x=p", "s.js 10000000 -x:p"),
-        ("run|s.js|--module|--steps|5", "usage"),
-        ("run|s.js|--module=a=b|--module=a=c", "usage"),
-        (
-            "run|s.js|--module=a=b|--module=A=b",
-            "s.js 10000000 a:b A:b",
-        ),
-        ("run|s.js|--help", "usage"),
-        ("run|s.js|--version", "usage"),
-        ("run|s.js|-h", "usage"),
-        ("run|s.js|-", "usage"),
-        ("run|s.js|--", "usage"),
-        ("run|-s.js", "usage"),
-        ("run|", "usage"),
-        ("run", "usage"),
-        ("", "usage"),
-        ("s.js", "usage"),
-        ("s.js|run", "usage"),
-        ("run|s.js|t.js", "usage"),
-        ("Run|s.js", "usage"),
+        ("run|s.js|--module=a=b|--module=A=b", "s.js 10000000 a:b A:b"),
+    ];
+    all_read(&rt, cases.as_slice())
+}
+
+#[test]
+fn faulty_modules_are_refused(rt: HostRuntime) -> Result<(), Fail> {
+    let lines = [
+        "run|s.js|--module=a=",
+        "run|s.js|--module==b",
+        "run|s.js|--module=a",
+        "run|s.js|--module=",
+        "run|s.js|--module|",
+        "run|s.js|--module",
+        "run|s.js|--module|-x=p",
+        "run|s.js|--module|--steps|5",
+        "run|s.js|--module=a=b|--module=a=c",
+    ];
+    all_refused(&rt, lines.as_slice())
+}
+
+#[test]
+fn paths_are_read(rt: HostRuntime) -> Result<(), Fail> {
+    let cases = [
+        ("run|s.js", "s.js 10000000"),
         ("run|run", "run 10000000"),
         ("run|s=t.js", "s=t.js 10000000"),
-        ("run|--steps=5", "usage"),
-        ("--step=5|run|s.js", "usage"),
-        ("--steps5|run|s.js", "usage"),
-        ("run|s.js|--Module=a=b", "usage"),
     ];
-    for (line, expected) in cases {
-        let words = split(rt.alloc(), line)?;
-        let got = told(rt.alloc(), words.as_slice())?;
-        assert_eq!(rt; got.as_str(), expected, "at {line}");
-    }
+    all_read(&rt, cases.as_slice())
+}
+
+#[test]
+fn faulty_words_are_refused(rt: HostRuntime) -> Result<(), Fail> {
+    let lines = [
+        "run|s.js|--help",
+        "run|s.js|--version",
+        "run|s.js|-h",
+        "run|s.js|-",
+        "run|s.js|--",
+        "run|-s.js",
+        "run|",
+        "run",
+        "",
+        "s.js",
+        "s.js|run",
+        "run|s.js|t.js",
+        "Run|s.js",
+        "--step=5|run|s.js",
+        "run|s.js|--Module=a=b",
+    ];
+    all_refused(&rt, lines.as_slice())
+}
+
+#[test]
+fn no_words_are_refused(rt: HostRuntime) -> Result<(), Fail> {
     let none = Vec::new(rt.alloc());
     let got = told(rt.alloc(), none.as_slice())?;
     assert_eq!(rt; got.as_str(), "usage");

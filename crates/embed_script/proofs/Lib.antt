@@ -1,0 +1,11 @@
+pub mod Sizes
+pub mod Values
+pub mod Chains
+pub mod Steps
+pub mod Lines
+pub mod Bound
+pub mod Runs
+pub mod Loads
+pub mod Arguments
+pub mod Effects
+mod Cases

@@ -1,0 +1,39 @@
+-- How a run ends, and what comes after an answer (ECMA-262, section 5.2.3, in the profile).
+use Rattle.std.specs.Prelude.{ℕ, List, Result, Ok, Err, nat_le, ◌-◌, codes, if◌then◌else◌}
+use Rattle.embed_base.specs.declared.outside.OutsideKind.{OutsideKind}
+use Rattle.embed_base.specs.declared.outside.Place.TheVariants as places
+use Rattle.embed_base.specs.declared.outside.Outside.{Outside}
+
+-- how a run ends: at the script's end; with an exception that nothing catches, by its shown form; with a charge above what
+-- is left of the budget; or with a named refusal
+pub data End : Type 0 where
+  done : End
+  uncaught : (shown : List ℕ) → End
+  past_budget : (needs left : ℕ) → End
+  outside : Outside → End
+
+-- the exception of bytes that are no valid module
+abbrev pub compile_error : End
+compile_error = uncaught (codes "CompileError")
+
+-- what comes after an answer; an end stays
+abbrev pub and_then : {A B E : Type 0} → Result A E → (A → Result B E) → Result B E
+and_then (Ok x) f = f x
+and_then (Err e) f = Err e
+
+-- a charge: what is left of the budget after it; one above what is left ends the run
+abbrev pub charge : (needs left : ℕ) → Result ℕ End
+charge needs left = if nat_le needs left then Ok (left - needs) else Err (past_budget needs left)
+
+-- a refusal at a byte of the script
+abbrev pub refused_at : ℕ → OutsideKind → Outside
+refused_at place kind = record { kind = kind; place = places.Script place }
+
+-- an answer whose refusal stands at a byte of the script
+abbrev pub at_place : {A : Type 0} → ℕ → Result A OutsideKind → Result A End
+at_place place (Ok v) = Ok v
+at_place place (Err kind) = Err (outside (refused_at place kind))
+
+-- an answer that takes nothing of the budget
+abbrev pub keeping : {A : Type 0} → (left : ℕ) → Result A End → Result (A × ℕ) End
+keeping left answer = and_then answer (λ x. Ok (x, left))

@@ -1,0 +1,11 @@
+pub mod Values
+pub mod Operators
+pub mod Ends
+pub mod Functions
+pub mod Evaluation
+pub mod Outcome
+pub mod ModuleFiles
+pub mod Stops
+pub mod Words
+pub mod Tasks
+pub mod Runs

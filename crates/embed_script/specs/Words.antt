@@ -1,0 +1,15 @@
+-- The arguments of a call, one after the other. No public clause cites this.
+use Rattle.std.specs.Prelude.{ℕ, List, Option, Some, None, Result, Ok}
+use Rattle.std.specs.declared.alloc.Global.{Global}
+use Rattle.std.specs.declared.vec.Vec.{Vec}
+use Rattle.embed_base.specs.declared.outside.OutsideKind.{OutsideKind}
+use Rattle.embed_script.specs.declared.value.Value.{Value}
+use Rattle.embed_script.specs.Functions.{word_of}
+
+-- the argument for a parameter, where it isn't missing
+abbrev pub argument_of : Option Value → Result ℕ OutsideKind
+argument_of (Some v) = word_of v
+argument_of None = Ok 0
+
+abbrev pub words_in : Vec ℕ Global → List ℕ
+words_in v = v.items
