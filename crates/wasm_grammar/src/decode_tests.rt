@@ -1,7 +1,51 @@
 use crate::{DecodeError, Foreign, decode};
 use std::alloc::Global;
+use std::process::Abort;
 use std::test::Fail;
 use wasm_syntax::{BlockId, BlockType, ExportDesc, Instr, Mode, Module, ValType};
+
+/// The most bytes that are decoded.
+const MOST: usize = 1 << 24;
+
+fn decoded(alloc: Global, bytes: &[u8]) -> Result<Result<Module, DecodeError>, Fail> {
+    if bytes.len() > MOST {
+        return Ok(Err(DecodeError::NoMemory));
+    }
+    Ok(decode(alloc, bytes))
+}
+
+fn with_preamble(alloc: Global, sections: &[u8]) -> Result<Vec<u8>, Fail> {
+    let mut bytes = Vec::new(alloc);
+    bytes.extend_from_slice(b"\0asm\x01\0\0\0")?;
+    bytes.extend_from_slice(sections)?;
+    Ok(bytes)
+}
+
+fn sections(alloc: Global, sections: &[u8]) -> Result<Result<Module, DecodeError>, Fail> {
+    let bytes = with_preamble(alloc, sections)?;
+    decoded(alloc, bytes.as_slice())
+}
+
+/// Each case of a table, which is a number of bytes and these bytes behind the preamble, gives this refusal, or none.
+fn each(
+    rt: &impl Abort,
+    alloc: Global,
+    table: &[u8],
+    wanted: Option<DecodeError>,
+) -> Result<(), Fail> {
+    let mut rest = table;
+    for _ in 0..table.len() {
+        let [len, tail @ ..] = rest else {
+            return Ok(());
+        };
+        let len = *len as usize;
+        assert!(rt; len <= tail.len(), "a case is cut");
+        let (case, next) = tail.split_at(len);
+        assert_eq!(rt; sections(alloc, case)?.err(), wanted);
+        rest = next;
+    }
+    Ok(())
+}
 
 static ADD: [u8; 41] = [
     0x00, 0x61, 0x73, 0x6D, 0x01, 0x00, 0x00, 0x00, 0x01, 0x07, 0x01, 0x60, 0x02, 0x7F, 0x7F, 0x01,
@@ -93,94 +137,323 @@ static APP: [u8; 185] = [
     0x65, 0x01, 0x06, 0x01, 0x02, 0x03, 0x72, 0x75, 0x6E,
 ];
 
-/// The most bytes that are decoded.
-const MOST: usize = 1 << 24;
+/// Spellings of numbers that are longer than they must be, and a sign that is copied.
+static TAKEN_NUMBERS: [u8; 32] = [
+    // a count of five bytes
+    0x0A, 0x01, 0x08, 0x81, 0x80, 0x80, 0x80, 0x00, 0x60, 0x00, 0x00,
+    // a constant of five bytes
+    0x0C, 0x06, 0x0A, 0x01, 0x7F, 0x00, 0x41, 0xFF, 0xFF, 0xFF, 0xFF, 0x7F, 0x0B,
+    // a flag of three bytes
+    0x07, 0x0B, 0x05, 0x01, 0x81, 0x80, 0x00, 0x00,
+];
 
-/// A module of a type without parameters and results, and of one function of it.
-const ONE_FUNCTION: [u8; 10] = [0x01, 0x04, 0x01, 0x60, 0x00, 0x00, 0x03, 0x02, 0x01, 0x00];
+/// Spellings that no number has.
+static REFUSED_NUMBERS: [u8; 33] = [
+    // a count of six bytes
+    0x0B, 0x01, 0x09, 0x81, 0x80, 0x80, 0x80, 0x80, 0x00, 0x60, 0x00, 0x00,
+    // an unused bit that is set
+    0x07, 0x03, 0x05, 0x80, 0x80, 0x80, 0x80, 0x10,
+    // a sign that is not copied
+    0x0C, 0x06, 0x0A, 0x01, 0x7F, 0x00, 0x41, 0xFF, 0xFF, 0xFF, 0xFF, 0x0F, 0x0B,
+];
 
-fn decoded(alloc: Global, bytes: &[u8]) -> Result<Result<Module, DecodeError>, Fail> {
-    if bytes.len() > MOST {
-        return Ok(Err(DecodeError::NoMemory));
-    }
-    Ok(decode(alloc, bytes))
-}
+/// Sections in their order.
+static ORDERED: [u8; 17] = [
+    // none
+    0x00,
+    // types, functions, data count, code, data
+    0x0F, 0x01, 0x01, 0x00, 0x03, 0x01, 0x00, 0x0C, 0x01, 0x00, 0x0A, 0x01, 0x00, 0x0B, 0x01, 0x00,
+];
 
-/// The preamble, and parts behind it.
-fn with_preamble(alloc: Global, parts: &[&[u8]]) -> Result<Vec<u8>, Fail> {
-    let mut bytes = Vec::new(alloc);
-    bytes.extend_from_slice(&[0x00, 0x61, 0x73, 0x6D, 0x01, 0x00, 0x00, 0x00])?;
-    for part in parts {
-        bytes.extend_from_slice(part)?;
-    }
-    Ok(bytes)
-}
+/// Sections out of their order.
+static DISORDERED: [u8; 39] = [
+    // types twice
+    0x06, 0x01, 0x01, 0x00, 0x01, 0x01, 0x00,
+    // types behind functions
+    0x06, 0x03, 0x01, 0x00, 0x01, 0x01, 0x00,
+    // a data count behind code
+    0x06, 0x0A, 0x01, 0x00, 0x0C, 0x01, 0x00,
+    // code behind data
+    0x06, 0x0B, 0x01, 0x00, 0x0A, 0x01, 0x00,
+    // data twice
+    0x06, 0x0B, 0x01, 0x00, 0x0B, 0x01, 0x00,
+    // an unknown section
+    0x03, 0x0D, 0x01, 0x00,
+];
 
-fn sections(alloc: Global, parts: &[&[u8]]) -> Result<Result<Module, DecodeError>, Fail> {
-    let bytes = with_preamble(alloc, parts)?;
-    decoded(alloc, bytes.as_slice())
-}
+/// Counts of 2^32 - 1 before few bytes.
+static TOO_MANY: [u8; 146] = [
+    // a vector of section 1
+    0x08, 0x01, 0x06, 0xFF, 0xFF, 0xFF, 0xFF, 0x0F, 0x00,
+    // a vector of section 2
+    0x08, 0x02, 0x06, 0xFF, 0xFF, 0xFF, 0xFF, 0x0F, 0x00,
+    // a vector of section 3
+    0x08, 0x03, 0x06, 0xFF, 0xFF, 0xFF, 0xFF, 0x0F, 0x00,
+    // a vector of section 4
+    0x08, 0x04, 0x06, 0xFF, 0xFF, 0xFF, 0xFF, 0x0F, 0x00,
+    // a vector of section 5
+    0x08, 0x05, 0x06, 0xFF, 0xFF, 0xFF, 0xFF, 0x0F, 0x00,
+    // a vector of section 6
+    0x08, 0x06, 0x06, 0xFF, 0xFF, 0xFF, 0xFF, 0x0F, 0x00,
+    // a vector of section 7
+    0x08, 0x07, 0x06, 0xFF, 0xFF, 0xFF, 0xFF, 0x0F, 0x00,
+    // a vector of section 9
+    0x08, 0x09, 0x06, 0xFF, 0xFF, 0xFF, 0xFF, 0x0F, 0x00,
+    // a vector of section 10
+    0x08, 0x0A, 0x06, 0xFF, 0xFF, 0xFF, 0xFF, 0x0F, 0x00,
+    // a vector of section 11
+    0x08, 0x0B, 0x06, 0xFF, 0xFF, 0xFF, 0xFF, 0x0F, 0x00,
+    // parameters
+    0x0A, 0x01, 0x08, 0x01, 0x60, 0xFF, 0xFF, 0xFF, 0xFF, 0x0F, 0x7F,
+    // indices of an element segment
+    0x0B, 0x09, 0x09, 0x01, 0x01, 0x00, 0xFF, 0xFF, 0xFF, 0xFF, 0x0F, 0x00,
+    // runs of locals
+    0x15, 0x01, 0x04, 0x01, 0x60, 0x00, 0x00, 0x03, 0x02, 0x01, 0x00, 0x0A, 0x09, 0x01, 0x07, 0xFF,
+    0xFF, 0xFF, 0xFF, 0x0F, 0x00, 0x0B,
+    // bytes of a data segment
+    0x0A, 0x0B, 0x08, 0x01, 0x01, 0xFF, 0xFF, 0xFF, 0xFF, 0x0F, 0x00,
+];
 
-/// Why sections give no module, or nothing where they do.
-fn refusal(alloc: Global, parts: &[&[u8]]) -> Result<Option<DecodeError>, Fail> {
-    Ok(sections(alloc, parts)?.err())
+/// Code entries of their size.
+static EXACT_ENTRIES: [u8; 46] = [
+    // the shortest
+    0x10, 0x01, 0x04, 0x01, 0x60, 0x00, 0x00, 0x03, 0x02, 0x01, 0x00, 0x0A, 0x04, 0x01, 0x02, 0x00,
+    0x0B,
+    // 2^32 - 1 locals
+    0x1C, 0x01, 0x04, 0x01, 0x60, 0x00, 0x00, 0x03, 0x02, 0x01, 0x00, 0x0A, 0x10, 0x01, 0x0E, 0x02,
+    0xFF, 0xFF, 0xFF, 0xFF, 0x07, 0x7F, 0x80, 0x80, 0x80, 0x80, 0x08, 0x7F, 0x0B,
+];
+
+/// Code entries that aren't of their size, or have too many locals.
+static WRONG_ENTRIES: [u8; 81] = [
+    // a byte too many
+    0x11, 0x01, 0x04, 0x01, 0x60, 0x00, 0x00, 0x03, 0x02, 0x01, 0x00, 0x0A, 0x05, 0x01, 0x03, 0x00,
+    0x0B, 0x0B,
+    // a byte too few
+    0x10, 0x01, 0x04, 0x01, 0x60, 0x00, 0x00, 0x03, 0x02, 0x01, 0x00, 0x0A, 0x04, 0x01, 0x01, 0x00,
+    0x0B,
+    // a byte beyond the section
+    0x10, 0x01, 0x04, 0x01, 0x60, 0x00, 0x00, 0x03, 0x02, 0x01, 0x00, 0x0A, 0x04, 0x01, 0x03, 0x00,
+    0x0B,
+    // 2^32 locals
+    0x1C, 0x01, 0x04, 0x01, 0x60, 0x00, 0x00, 0x03, 0x02, 0x01, 0x00, 0x0A, 0x10, 0x01, 0x0E, 0x02,
+    0x80, 0x80, 0x80, 0x80, 0x08, 0x7F, 0x80, 0x80, 0x80, 0x80, 0x08, 0x7F, 0x0B,
+];
+
+/// Sections that agree.
+static AGREEING: [u8; 87] = [
+    // data without a count
+    0x05, 0x0B, 0x03, 0x01, 0x01, 0x00,
+    // a count of data
+    0x08, 0x0C, 0x01, 0x01, 0x0B, 0x03, 0x01, 0x01, 0x00,
+    // memory.init with a count
+    0x1C, 0x01, 0x04, 0x01, 0x60, 0x00, 0x00, 0x03, 0x02, 0x01, 0x00, 0x0C, 0x01, 0x01, 0x0A, 0x08,
+    0x01, 0x06, 0x00, 0xFC, 0x08, 0x00, 0x00, 0x0B, 0x0B, 0x03, 0x01, 0x01, 0x00,
+    // data.drop with a count
+    0x1B, 0x01, 0x04, 0x01, 0x60, 0x00, 0x00, 0x03, 0x02, 0x01, 0x00, 0x0C, 0x01, 0x01, 0x0A, 0x07,
+    0x01, 0x05, 0x00, 0xFC, 0x09, 0x00, 0x0B, 0x0B, 0x03, 0x01, 0x01, 0x00,
+    // data.drop in a constant expression
+    0x0E, 0x06, 0x07, 0x01, 0x7F, 0x00, 0xFC, 0x09, 0x00, 0x0B, 0x0B, 0x03, 0x01, 0x01, 0x00,
+];
+
+/// Sections that don't agree.
+static DISAGREEING: [u8; 102] = [
+    // a function without code
+    0x0A, 0x01, 0x04, 0x01, 0x60, 0x00, 0x00, 0x03, 0x02, 0x01, 0x00,
+    // code without a function
+    0x06, 0x0A, 0x04, 0x01, 0x02, 0x00, 0x0B,
+    // two codes for one function
+    0x13, 0x01, 0x04, 0x01, 0x60, 0x00, 0x00, 0x03, 0x02, 0x01, 0x00, 0x0A, 0x07, 0x02, 0x02, 0x00,
+    0x0B, 0x02, 0x00, 0x0B,
+    // a count of no data before data
+    0x08, 0x0C, 0x01, 0x00, 0x0B, 0x03, 0x01, 0x01, 0x00,
+    // a count of data without data
+    0x03, 0x0C, 0x01, 0x01,
+    // memory.init without a count
+    0x19, 0x01, 0x04, 0x01, 0x60, 0x00, 0x00, 0x03, 0x02, 0x01, 0x00, 0x0A, 0x08, 0x01, 0x06, 0x00,
+    0xFC, 0x08, 0x00, 0x00, 0x0B, 0x0B, 0x03, 0x01, 0x01, 0x00,
+    // data.drop without a count
+    0x18, 0x01, 0x04, 0x01, 0x60, 0x00, 0x00, 0x03, 0x02, 0x01, 0x00, 0x0A, 0x07, 0x01, 0x05, 0x00,
+    0xFC, 0x09, 0x00, 0x0B, 0x0B, 0x03, 0x01, 0x01, 0x00,
+];
+
+/// Each section cut at each of its bytes, with its size.
+static CUT_SECTIONS: [u8; 345] = [
+    0x02, 0x01, 0x00, 0x03, 0x01, 0x01, 0x01, 0x04, 0x01, 0x02, 0x01, 0x60, 0x05, 0x01, 0x03, 0x01,
+    0x60, 0x00, 0x06, 0x01, 0x04, 0x01, 0x60, 0x00, 0x01, 0x02, 0x02, 0x00, 0x03, 0x02, 0x01, 0x01,
+    0x04, 0x02, 0x02, 0x01, 0x01, 0x05, 0x02, 0x03, 0x01, 0x01, 0x61, 0x06, 0x02, 0x04, 0x01, 0x01,
+    0x61, 0x01, 0x07, 0x02, 0x05, 0x01, 0x01, 0x61, 0x01, 0x74, 0x08, 0x02, 0x06, 0x01, 0x01, 0x61,
+    0x01, 0x74, 0x01, 0x09, 0x02, 0x07, 0x01, 0x01, 0x61, 0x01, 0x74, 0x01, 0x70, 0x0A, 0x02, 0x08,
+    0x01, 0x01, 0x61, 0x01, 0x74, 0x01, 0x70, 0x00, 0x02, 0x04, 0x00, 0x03, 0x04, 0x01, 0x01, 0x04,
+    0x04, 0x02, 0x01, 0x70, 0x05, 0x04, 0x03, 0x01, 0x70, 0x00, 0x02, 0x05, 0x00, 0x03, 0x05, 0x01,
+    0x01, 0x04, 0x05, 0x02, 0x01, 0x00, 0x02, 0x06, 0x00, 0x03, 0x06, 0x01, 0x01, 0x04, 0x06, 0x02,
+    0x01, 0x7F, 0x05, 0x06, 0x03, 0x01, 0x7F, 0x00, 0x06, 0x06, 0x04, 0x01, 0x7F, 0x00, 0x41, 0x07,
+    0x06, 0x05, 0x01, 0x7F, 0x00, 0x41, 0x00, 0x02, 0x07, 0x00, 0x03, 0x07, 0x01, 0x01, 0x04, 0x07,
+    0x02, 0x01, 0x01, 0x05, 0x07, 0x03, 0x01, 0x01, 0x68, 0x06, 0x07, 0x04, 0x01, 0x01, 0x68, 0x00,
+    0x02, 0x09, 0x00, 0x03, 0x09, 0x01, 0x01, 0x04, 0x09, 0x02, 0x01, 0x00, 0x05, 0x09, 0x03, 0x01,
+    0x00, 0x41, 0x06, 0x09, 0x04, 0x01, 0x00, 0x41, 0x00, 0x07, 0x09, 0x05, 0x01, 0x00, 0x41, 0x00,
+    0x0B, 0x08, 0x09, 0x06, 0x01, 0x00, 0x41, 0x00, 0x0B, 0x01, 0x02, 0x0B, 0x00, 0x03, 0x0B, 0x01,
+    0x01, 0x04, 0x0B, 0x02, 0x01, 0x00, 0x05, 0x0B, 0x03, 0x01, 0x00, 0x41, 0x06, 0x0B, 0x04, 0x01,
+    0x00, 0x41, 0x80, 0x07, 0x0B, 0x05, 0x01, 0x00, 0x41, 0x80, 0x80, 0x08, 0x0B, 0x06, 0x01, 0x00,
+    0x41, 0x80, 0x80, 0x04, 0x09, 0x0B, 0x07, 0x01, 0x00, 0x41, 0x80, 0x80, 0x04, 0x0B, 0x0A, 0x0B,
+    0x08, 0x01, 0x00, 0x41, 0x80, 0x80, 0x04, 0x0B, 0x01, 0x02, 0x08, 0x00, 0x02, 0x0C, 0x00, 0x0C,
+    0x01, 0x04, 0x01, 0x60, 0x00, 0x00, 0x03, 0x02, 0x01, 0x00, 0x0A, 0x00, 0x0D, 0x01, 0x04, 0x01,
+    0x60, 0x00, 0x00, 0x03, 0x02, 0x01, 0x00, 0x0A, 0x01, 0x01, 0x0E, 0x01, 0x04, 0x01, 0x60, 0x00,
+    0x00, 0x03, 0x02, 0x01, 0x00, 0x0A, 0x02, 0x01, 0x02, 0x0F, 0x01, 0x04, 0x01, 0x60, 0x00, 0x00,
+    0x03, 0x02, 0x01, 0x00, 0x0A, 0x03, 0x01, 0x02, 0x00,
+];
+
+#[test]
+fn spellings_of_numbers(rt: HostRuntime) -> Result<(), Fail> {
+    each(&rt, rt.alloc(), &TAKEN_NUMBERS, None)?;
+    each(
+        &rt,
+        rt.alloc(),
+        &REFUSED_NUMBERS,
+        Some(DecodeError::Malformed),
+    )
 }
 
 #[test]
-fn modules_of_all_kinds(rt: HostRuntime) -> Result<(), Fail> {
-    let alloc = rt.alloc();
-    assert!(rt; decoded(alloc, &ADD)?.is_ok());
-    assert!(rt; decoded(alloc, &IDENTITY)?.is_ok());
-    assert!(rt; decoded(alloc, &TABLES)?.is_ok());
-    assert!(rt; decoded(alloc, &REEXPORT)?.is_ok());
-    assert!(rt; decoded(alloc, &TWO_IMPORTS)?.is_ok());
-    assert!(rt; decoded(alloc, &MEMORY)?.is_ok());
-    assert!(rt; decoded(alloc, &PAGES)?.is_ok());
-    assert!(rt; decoded(alloc, &READS)?.is_ok());
-    assert!(rt; decoded(alloc, &CALLS)?.is_ok());
-    assert!(rt; decoded(alloc, &HANDS_ON)?.is_ok());
-    assert!(rt; decoded(alloc, &STARTS)?.is_ok());
-    assert!(rt; decoded(alloc, &APP)?.is_ok());
+fn the_order_of_sections(rt: HostRuntime) -> Result<(), Fail> {
+    each(&rt, rt.alloc(), &ORDERED, None)?;
+    each(&rt, rt.alloc(), &DISORDERED, Some(DecodeError::Malformed))
+}
+
+#[test]
+fn counts_that_tell_too_much_end_at_once(rt: HostRuntime) -> Result<(), Fail> {
+    each(&rt, rt.alloc(), &TOO_MANY, Some(DecodeError::Malformed))
+}
+
+#[test]
+fn code_entries_of_their_size(rt: HostRuntime) -> Result<(), Fail> {
+    each(&rt, rt.alloc(), &EXACT_ENTRIES, None)?;
+    each(
+        &rt,
+        rt.alloc(),
+        &WRONG_ENTRIES,
+        Some(DecodeError::Malformed),
+    )
+}
+
+#[test]
+fn sections_agree(rt: HostRuntime) -> Result<(), Fail> {
+    each(&rt, rt.alloc(), &AGREEING, None)?;
+    each(&rt, rt.alloc(), &DISAGREEING, Some(DecodeError::Malformed))
+}
+
+#[test]
+fn sections_cut_at_each_of_their_bytes(rt: HostRuntime) -> Result<(), Fail> {
+    each(&rt, rt.alloc(), &CUT_SECTIONS, Some(DecodeError::Malformed))
+}
+
+fn is_taken(alloc: Global, bytes: &[u8]) -> Result<bool, Fail> {
+    Ok(decoded(alloc, bytes)?.is_ok())
+}
+
+#[test]
+fn modules_that_call_and_add(rt: HostRuntime) -> Result<(), Fail> {
+    assert!(rt; is_taken(rt.alloc(), &ADD)?);
+    assert!(rt; is_taken(rt.alloc(), &IDENTITY)?);
+    assert!(rt; is_taken(rt.alloc(), &CALLS)?);
+    assert!(rt; is_taken(rt.alloc(), &HANDS_ON)?);
     Ok(())
+}
+
+#[test]
+fn modules_with_tables_and_memories(rt: HostRuntime) -> Result<(), Fail> {
+    assert!(rt; is_taken(rt.alloc(), &TABLES)?);
+    assert!(rt; is_taken(rt.alloc(), &MEMORY)?);
+    assert!(rt; is_taken(rt.alloc(), &PAGES)?);
+    assert!(rt; is_taken(rt.alloc(), &READS)?);
+    Ok(())
+}
+
+#[test]
+fn modules_that_hand_on_and_start(rt: HostRuntime) -> Result<(), Fail> {
+    assert!(rt; is_taken(rt.alloc(), &REEXPORT)?);
+    assert!(rt; is_taken(rt.alloc(), &TWO_IMPORTS)?);
+    assert!(rt; is_taken(rt.alloc(), &STARTS)?);
+    assert!(rt; is_taken(rt.alloc(), &APP)?);
+    Ok(())
+}
+
+fn outside(place: u64, what: Foreign) -> Option<DecodeError> {
+    Some(DecodeError::Outside { place, what })
 }
 
 #[test]
 fn a_float_is_outside_and_a_cut_module_malformed(rt: HostRuntime) -> Result<(), Fail> {
     let alloc = rt.alloc();
-    let float = DecodeError::Outside {
-        place: 13,
-        what: Foreign::Float,
-    };
-    assert_eq!(rt; decoded(alloc, &FLOATS)?.err(), Some(float));
-    assert_eq!(rt;
-        decoded(alloc, &FLOATS[..14])?.err(),
-        Some(DecodeError::Malformed)
-    );
-    let vector_first = DecodeError::Outside {
-        place: 13,
-        what: Foreign::Simd,
-    };
-    let types: [u8; 8] = [0x01, 0x06, 0x01, 0x60, 0x01, 0x7B, 0x01, 0x7D];
-    assert_eq!(rt; refusal(alloc, &[&types])?, Some(vector_first));
+    assert_eq!(rt; decoded(alloc, &FLOATS)?.err(), outside(13, Foreign::Float));
+    let (cut, _) = FLOATS.split_at(14);
+    assert_eq!(rt; decoded(alloc, cut)?.err(), Some(DecodeError::Malformed));
     Ok(())
 }
 
 #[test]
-fn the_parts_of_a_small_module(rt: HostRuntime) -> Result<(), Fail> {
+fn the_first_of_two_leaves(rt: HostRuntime) -> Result<(), Fail> {
+    let types = [0x01, 0x06, 0x01, 0x60, 0x01, 0x7B, 0x01, 0x7D];
+    assert_eq!(rt;
+        sections(rt.alloc(), &types)?.err(),
+        outside(13, Foreign::Simd)
+    );
+    Ok(())
+}
+
+#[test]
+fn a_vector_in_a_body_ends_it(rt: HostRuntime) -> Result<(), Fail> {
+    let module = [
+        0x01, 0x04, 0x01, 0x60, 0x00, 0x00, 0x03, 0x02, 0x01, 0x00, 0x0A, 0x08, 0x01, 0x06, 0x00,
+        0x02, 0x40, 0xFD, 0x09, 0x09,
+    ];
+    assert_eq!(rt;
+        sections(rt.alloc(), &module)?.err(),
+        outside(25, Foreign::Simd)
+    );
+    Ok(())
+}
+
+#[test]
+fn a_vector_in_a_constant_expression(rt: HostRuntime) -> Result<(), Fail> {
+    let global = [
+        0x06, 0x16, 0x01, 0x7F, 0x00, 0xFD, 0x0C, 0, 0, 0, 0, 0, 0, 0, 0, 0, 0, 0, 0, 0, 0, 0, 0,
+        0x0B,
+    ];
+    assert_eq!(rt;
+        sections(rt.alloc(), &global)?.err(),
+        outside(13, Foreign::Simd)
+    );
+    let other = [0x06, 0x06, 0x01, 0x7F, 0x00, 0xFD, 0x0D, 0x0B];
+    assert_eq!(rt;
+        sections(rt.alloc(), &other)?.err(),
+        Some(DecodeError::Malformed)
+    );
+    Ok(())
+}
+
+#[test]
+fn the_function_of_a_small_module(rt: HostRuntime) -> Result<(), Fail> {
     let module = decoded(rt.alloc(), &ADD)??;
+    let func = module.funcs.get(0).ok_or("no function")?;
+    assert_eq!(rt; func.ty, 0);
+    assert_eq!(rt; func.locals.len(), 0);
+    assert_eq!(rt; func.body, BlockId(0));
     let ty = module.types.get(0).ok_or("no type")?;
     assert_eq!(rt;
         ty.params.as_slice(),
         [ValType::I32, ValType::I32].as_slice()
     );
     assert_eq!(rt; ty.results.as_slice(), [ValType::I32].as_slice());
-    let func = module.funcs.get(0).ok_or("no function")?;
-    assert_eq!(rt; func.ty, 0);
-    assert_eq!(rt; func.locals.len(), 0);
-    assert_eq!(rt; func.body, BlockId(0));
     let export = module.exports.get(0).ok_or("no export")?;
     assert_eq!(rt; export.name.as_str(), "add");
     assert_eq!(rt; export.desc, ExportDesc::Func(0));
+    Ok(())
+}
+
+#[test]
+fn the_block_of_a_small_module(rt: HostRuntime) -> Result<(), Fail> {
+    let module = decoded(rt.alloc(), &ADD)??;
     assert_eq!(rt; module.blocks.len(), 1);
     let body = module.blocks.get(0).ok_or("no body")?;
     assert_eq!(rt; body.len(), 3);
@@ -191,7 +464,7 @@ fn the_parts_of_a_small_module(rt: HostRuntime) -> Result<(), Fail> {
 }
 
 #[test]
-fn segments_and_bodies_in_the_order_of_the_file(rt: HostRuntime) -> Result<(), Fail> {
+fn a_segment_and_its_blocks(rt: HostRuntime) -> Result<(), Fail> {
     let module = decoded(rt.alloc(), &TABLES)??;
     let elem = module.elems.get(0).ok_or("no segment")?;
     assert_eq!(rt; elem.ty, ValType::FuncRef);
@@ -201,26 +474,31 @@ fn segments_and_bodies_in_the_order_of_the_file(rt: HostRuntime) -> Result<(), F
         offset: BlockId(0),
     };
     assert_eq!(rt; elem.mode, mode);
-    let first = module.funcs.get(0).ok_or("no function")?;
-    assert_eq!(rt; (first.ty, first.body), (0, BlockId(2)));
-    let second = module.funcs.get(1).ok_or("no second function")?;
-    assert_eq!(rt; (second.ty, second.body), (1, BlockId(3)));
-    assert_eq!(rt; module.blocks.len(), 4);
     let item = module.blocks.get(1).ok_or("no item")?;
     assert!(rt; matches!(item.get(0), Some(Instr::RefFunc(0))));
-    let body = module.blocks.get(2).ok_or("no body")?;
-    assert!(rt; matches!(body.get(0), Some(Instr::I32Const(7))));
+    Ok(())
+}
+
+#[test]
+fn bodies_behind_the_blocks_of_segments(rt: HostRuntime) -> Result<(), Fail> {
+    let module = decoded(rt.alloc(), &TABLES)??;
+    let first = module.funcs.get(0).ok_or("no function")?;
+    assert_eq!(rt; first.ty, 0);
+    assert_eq!(rt; first.body, BlockId(2));
+    let second = module.funcs.get(1).ok_or("no second function")?;
+    assert_eq!(rt; second.ty, 1);
+    assert_eq!(rt; second.body, BlockId(3));
+    assert_eq!(rt; module.blocks.len(), 4);
     Ok(())
 }
 
 #[test]
 fn blocks_are_numbered_as_they_end(rt: HostRuntime) -> Result<(), Fail> {
-    let alloc = rt.alloc();
-    let code: [u8; 18] = [
-        0x0A, 0x10, 0x01, 0x0E, 0x00, 0x02, 0x40, 0x04, 0x40, 0x00, 0x05, 0x01, 0x0B, 0x0B, 0x04,
-        0x40, 0x0B, 0x0B,
+    let bytes = [
+        0x01, 0x04, 0x01, 0x60, 0x00, 0x00, 0x03, 0x02, 0x01, 0x00, 0x0A, 0x10, 0x01, 0x0E, 0x00,
+        0x02, 0x40, 0x04, 0x40, 0x00, 0x05, 0x01, 0x0B, 0x0B, 0x04, 0x40, 0x0B, 0x0B,
     ];
-    let module = sections(alloc, &[&ONE_FUNCTION, &code])??;
+    let module = sections(rt.alloc(), &bytes)??;
     assert_eq!(rt; module.blocks.len(), 6);
     let outer = module.blocks.get(2).ok_or("no outer block")?;
     assert!(rt;
@@ -245,103 +523,51 @@ fn blocks_are_numbered_as_they_end(rt: HostRuntime) -> Result<(), Fail> {
     Ok(())
 }
 
+/// One element segment of each flag.
+static SEGMENTS: [u8; 52] = [
+    0x09, 0x32, 0x08, 0x00, 0x41, 0x00, 0x0B, 0x01, 0x05, 0x01, 0x00, 0x01, 0x05, 0x02, 0x03, 0x41,
+    0x00, 0x0B, 0x00, 0x01, 0x05, 0x03, 0x00, 0x01, 0x05, 0x04, 0x41, 0x00, 0x0B, 0x01, 0xD2, 0x05,
+    0x0B, 0x05, 0x6F, 0x01, 0xD0, 0x6F, 0x0B, 0x06, 0x04, 0x41, 0x00, 0x0B, 0x70, 0x01, 0xD2, 0x05,
+    0x0B, 0x07, 0x70, 0x00,
+];
+
 #[test]
-fn spellings_of_numbers(rt: HostRuntime) -> Result<(), Fail> {
-    let alloc = rt.alloc();
-    let five: [u8; 10] = [0x01, 0x08, 0x81, 0x80, 0x80, 0x80, 0x00, 0x60, 0x00, 0x00];
-    assert_eq!(rt; refusal(alloc, &[&five])?, None);
-    let six: [u8; 11] = [
-        0x01, 0x09, 0x81, 0x80, 0x80, 0x80, 0x80, 0x00, 0x60, 0x00, 0x00,
-    ];
-    assert_eq!(rt; refusal(alloc, &[&six])?, Some(DecodeError::Malformed));
-    let unused: [u8; 7] = [0x03, 0x05, 0x80, 0x80, 0x80, 0x80, 0x10];
-    assert_eq!(rt; refusal(alloc, &[&unused])?, Some(DecodeError::Malformed));
-    let sign: [u8; 12] = [
-        0x06, 0x0A, 0x01, 0x7F, 0x00, 0x41, 0xFF, 0xFF, 0xFF, 0xFF, 0x7F, 0x0B,
-    ];
-    assert_eq!(rt; refusal(alloc, &[&sign])?, None);
-    let no_sign: [u8; 12] = [
-        0x06, 0x0A, 0x01, 0x7F, 0x00, 0x41, 0xFF, 0xFF, 0xFF, 0xFF, 0x0F, 0x0B,
-    ];
-    assert_eq!(rt; refusal(alloc, &[&no_sign])?, Some(DecodeError::Malformed));
-    let long_flag: [u8; 7] = [0x0B, 0x05, 0x01, 0x81, 0x80, 0x00, 0x00];
-    assert_eq!(rt; refusal(alloc, &[&long_flag])?, None);
+fn element_segments_by_their_flags(rt: HostRuntime) -> Result<(), Fail> {
+    let module = sections(rt.alloc(), &SEGMENTS)??;
+    assert_eq!(rt; module.elems.len(), 8);
+    let indexed = module.elems.get(2).ok_or("no segment")?;
+    assert!(rt; matches!(indexed.mode, Mode::Active { index: 3, .. }));
+    assert_eq!(rt; indexed.ty, ValType::FuncRef);
+    let passive = module.elems.get(5).ok_or("no segment")?;
+    assert_eq!(rt; passive.mode, Mode::Passive);
+    assert_eq!(rt; passive.ty, ValType::ExternRef);
+    let declared = module.elems.get(7).ok_or("no segment")?;
+    assert_eq!(rt; declared.mode, Mode::Declared);
+    assert_eq!(rt; declared.items.len(), 0);
     Ok(())
 }
 
-#[test]
-fn vectors_in_code_and_in_constant_expressions(rt: HostRuntime) -> Result<(), Fail> {
-    let alloc = rt.alloc();
-    let code: [u8; 10] = [0x0A, 0x08, 0x01, 0x06, 0x00, 0x02, 0x40, 0xFD, 0x09, 0x09];
-    let in_body = DecodeError::Outside {
-        place: 25,
-        what: Foreign::Simd,
-    };
-    assert_eq!(rt; refusal(alloc, &[&ONE_FUNCTION, &code])?, Some(in_body));
-    let front: [u8; 7] = [0x06, 0x16, 0x01, 0x7F, 0x00, 0xFD, 0x0C];
-    let rest: [u8; 17] = [0, 0, 0, 0, 0, 0, 0, 0, 0, 0, 0, 0, 0, 0, 0, 0, 0x0B];
-    let in_constant = DecodeError::Outside {
-        place: 13,
-        what: Foreign::Simd,
-    };
-    assert_eq!(rt; refusal(alloc, &[&front, &rest])?, Some(in_constant));
-    let other: [u8; 8] = [0x06, 0x06, 0x01, 0x7F, 0x00, 0xFD, 0x0D, 0x0B];
-    assert_eq!(rt; refusal(alloc, &[&other])?, Some(DecodeError::Malformed));
-    Ok(())
+/// A module with something put in at a place.
+fn with_custom(alloc: Global, place: usize, custom: &[u8]) -> Result<Vec<u8>, Fail> {
+    let bytes: &[u8] = &MEMORY;
+    let place = if place > bytes.len() { 0 } else { place };
+    let (front, back) = bytes.split_at(place);
+    let mut all = front.to_vec(alloc)?;
+    all.extend_from_slice(custom)?;
+    all.extend_from_slice(back)?;
+    Ok(all)
 }
 
-#[test]
-fn the_order_of_sections(rt: HostRuntime) -> Result<(), Fail> {
-    let alloc = rt.alloc();
-    let types: [u8; 3] = [0x01, 0x01, 0x00];
-    let funcs: [u8; 3] = [0x03, 0x01, 0x00];
-    let codes: [u8; 3] = [0x0A, 0x01, 0x00];
-    let datas: [u8; 3] = [0x0B, 0x01, 0x00];
-    let data_count: [u8; 3] = [0x0C, 0x01, 0x00];
-    assert_eq!(rt; refusal(alloc, &[])?, None);
-    assert_eq!(rt;
-        refusal(alloc, &[&types, &funcs, &data_count, &codes, &datas])?,
-        None
-    );
-    assert_eq!(rt;
-        refusal(alloc, &[&types, &types])?,
-        Some(DecodeError::Malformed)
-    );
-    assert_eq!(rt;
-        refusal(alloc, &[&funcs, &types])?,
-        Some(DecodeError::Malformed)
-    );
-    assert_eq!(rt;
-        refusal(alloc, &[&codes, &data_count])?,
-        Some(DecodeError::Malformed)
-    );
-    assert_eq!(rt;
-        refusal(alloc, &[&datas, &codes])?,
-        Some(DecodeError::Malformed)
-    );
-    let unknown: [u8; 3] = [0x0D, 0x01, 0x00];
-    assert_eq!(rt; refusal(alloc, &[&unknown])?, Some(DecodeError::Malformed));
-    Ok(())
-}
+/// Where the sections of `MEMORY` begin and end.
+static BORDERS: [usize; 8] = [8, 15, 26, 30, 35, 44, 52, 63];
 
 #[test]
 fn a_custom_section_at_each_place(rt: HostRuntime) -> Result<(), Fail> {
     let alloc = rt.alloc();
-    let custom: [u8; 6] = [0x00, 0x04, 0x01, 0x63, 0x09, 0x09];
-    let no_name: [u8; 4] = [0x00, 0x02, 0x05, 0x63];
-    let borders: [usize; 8] = [8, 15, 26, 30, 35, 44, 52, 63];
-    for border in borders {
-        if border > MEMORY.len() {
-            return Ok(());
-        }
-        let (front, back) = MEMORY.split_at(border);
-        let mut bytes = front.to_vec(alloc)?;
-        bytes.extend_from_slice(&custom)?;
-        bytes.extend_from_slice(back)?;
-        assert!(rt; decoded(alloc, bytes.as_slice())?.is_ok());
-        let mut bytes = front.to_vec(alloc)?;
-        bytes.extend_from_slice(&no_name)?;
-        bytes.extend_from_slice(back)?;
+    for border in &BORDERS {
+        let bytes = with_custom(alloc, *border, &[0x00, 0x04, 0x01, 0x63, 0x09, 0x09])?;
+        assert!(rt; is_taken(alloc, bytes.as_slice())?);
+        let bytes = with_custom(alloc, *border, &[0x00, 0x02, 0x05, 0x63])?;
         assert_eq!(rt;
             decoded(alloc, bytes.as_slice())?.err(),
             Some(DecodeError::Malformed)
@@ -351,173 +577,25 @@ fn a_custom_section_at_each_place(rt: HostRuntime) -> Result<(), Fail> {
 }
 
 #[test]
-fn a_module_cut_inside_a_section(rt: HostRuntime) -> Result<(), Fail> {
+fn a_module_cut_at_each_byte(rt: HostRuntime) -> Result<(), Fail> {
     let alloc = rt.alloc();
-    let borders: [usize; 5] = [8, 15, 26, 52, 63];
-    for end in 0..MEMORY.len() {
-        let is_whole = borders.contains(&end);
-        assert_eq!(rt; decoded(alloc, &MEMORY[..end])?.is_ok(), is_whole);
+    let bytes: &[u8] = &MEMORY;
+    for end in 0..bytes.len() {
+        let (cut, _) = bytes.split_at(end);
+        let is_whole = end == 8 || end == 15 || end == 26 || end == 52;
+        assert_eq!(rt; is_taken(alloc, cut)?, is_whole);
     }
-    Ok(())
-}
-
-#[test]
-fn a_section_whose_size_is_too_small(rt: HostRuntime) -> Result<(), Fail> {
-    let alloc = rt.alloc();
-    let parts: [&[u8]; 6] = [
-        &[0x01, 0x05, 0x01, 0x60, 0x00, 0x01, 0x7F],
-        &[
-            0x02, 0x09, 0x01, 0x01, 0x61, 0x01, 0x74, 0x01, 0x70, 0x00, 0x01,
-        ],
-        &[0x05, 0x03, 0x01, 0x00, 0x01],
-        &[0x07, 0x05, 0x01, 0x01, 0x68, 0x00, 0x00],
-        &[0x09, 0x07, 0x01, 0x00, 0x41, 0x00, 0x0B, 0x01, 0x00],
-        &[
-            0x0B, 0x09, 0x01, 0x00, 0x41, 0x80, 0x80, 0x04, 0x0B, 0x01, 0x2A,
-        ],
-    ];
-    for part in parts {
-        assert_eq!(rt; refusal(alloc, &[part])?, None);
-        for size in 0..part.len().saturating_sub(2) {
-            if part.is_empty() || size > 100 || size + 2 > part.len() {
-                return Ok(());
-            }
-            let head = [part[0], size as u8];
-            assert_eq!(rt;
-                refusal(alloc, &[&head, &part[2..size + 2]])?,
-                Some(DecodeError::Malformed)
-            );
-        }
-    }
-    Ok(())
-}
-
-#[test]
-fn counts_that_tell_too_much_end_at_once(rt: HostRuntime) -> Result<(), Fail> {
-    let alloc = rt.alloc();
-    for id in 1..12 {
-        let part: [u8; 8] = [id, 0x06, 0xFF, 0xFF, 0xFF, 0xFF, 0x0F, 0x00];
-        assert_eq!(rt; refusal(alloc, &[&part])?, Some(DecodeError::Malformed));
-    }
-    let params: [u8; 10] = [0x01, 0x08, 0x01, 0x60, 0xFF, 0xFF, 0xFF, 0xFF, 0x0F, 0x7F];
-    assert_eq!(rt; refusal(alloc, &[&params])?, Some(DecodeError::Malformed));
-    let indices: [u8; 11] = [
-        0x09, 0x09, 0x01, 0x01, 0x00, 0xFF, 0xFF, 0xFF, 0xFF, 0x0F, 0x00,
-    ];
-    assert_eq!(rt; refusal(alloc, &[&indices])?, Some(DecodeError::Malformed));
-    let locals: [u8; 11] = [
-        0x0A, 0x09, 0x01, 0x07, 0xFF, 0xFF, 0xFF, 0xFF, 0x0F, 0x00, 0x0B,
-    ];
-    assert_eq!(rt;
-        refusal(alloc, &[&ONE_FUNCTION, &locals])?,
-        Some(DecodeError::Malformed)
-    );
-    let bytes: [u8; 10] = [0x0B, 0x08, 0x01, 0x01, 0xFF, 0xFF, 0xFF, 0xFF, 0x0F, 0x00];
-    assert_eq!(rt; refusal(alloc, &[&bytes])?, Some(DecodeError::Malformed));
-    Ok(())
-}
-
-#[test]
-fn code_entries_of_their_size(rt: HostRuntime) -> Result<(), Fail> {
-    let alloc = rt.alloc();
-    let exact: [u8; 6] = [0x0A, 0x04, 0x01, 0x02, 0x00, 0x0B];
-    assert_eq!(rt; refusal(alloc, &[&ONE_FUNCTION, &exact])?, None);
-    let more: [u8; 7] = [0x0A, 0x05, 0x01, 0x03, 0x00, 0x0B, 0x0B];
-    assert_eq!(rt;
-        refusal(alloc, &[&ONE_FUNCTION, &more])?,
-        Some(DecodeError::Malformed)
-    );
-    let less: [u8; 6] = [0x0A, 0x04, 0x01, 0x01, 0x00, 0x0B];
-    assert_eq!(rt;
-        refusal(alloc, &[&ONE_FUNCTION, &less])?,
-        Some(DecodeError::Malformed)
-    );
-    let beyond: [u8; 6] = [0x0A, 0x04, 0x01, 0x03, 0x00, 0x0B];
-    assert_eq!(rt;
-        refusal(alloc, &[&ONE_FUNCTION, &beyond])?,
-        Some(DecodeError::Malformed)
-    );
-    let most: [u8; 18] = [
-        0x0A, 0x10, 0x01, 0x0E, 0x02, 0xFF, 0xFF, 0xFF, 0xFF, 0x07, 0x7F, 0x80, 0x80, 0x80, 0x80,
-        0x08, 0x7F, 0x0B,
-    ];
-    assert_eq!(rt; refusal(alloc, &[&ONE_FUNCTION, &most])?, None);
-    let too_many: [u8; 18] = [
-        0x0A, 0x10, 0x01, 0x0E, 0x02, 0x80, 0x80, 0x80, 0x80, 0x08, 0x7F, 0x80, 0x80, 0x80, 0x80,
-        0x08, 0x7F, 0x0B,
-    ];
-    assert_eq!(rt;
-        refusal(alloc, &[&ONE_FUNCTION, &too_many])?,
-        Some(DecodeError::Malformed)
-    );
-    Ok(())
-}
-
-#[test]
-fn sections_agree(rt: HostRuntime) -> Result<(), Fail> {
-    let alloc = rt.alloc();
-    let malformed = Some(DecodeError::Malformed);
-    let code: [u8; 6] = [0x0A, 0x04, 0x01, 0x02, 0x00, 0x0B];
-    let two: [u8; 9] = [0x0A, 0x07, 0x02, 0x02, 0x00, 0x0B, 0x02, 0x00, 0x0B];
-    assert_eq!(rt; refusal(alloc, &[&ONE_FUNCTION])?, malformed);
-    assert_eq!(rt; refusal(alloc, &[&code])?, malformed);
-    assert_eq!(rt; refusal(alloc, &[&ONE_FUNCTION, &two])?, malformed);
-    let no_data: [u8; 3] = [0x0C, 0x01, 0x00];
-    let one_data: [u8; 3] = [0x0C, 0x01, 0x01];
-    let data: [u8; 5] = [0x0B, 0x03, 0x01, 0x01, 0x00];
-    assert_eq!(rt; refusal(alloc, &[&data])?, None);
-    assert_eq!(rt; refusal(alloc, &[&one_data, &data])?, None);
-    assert_eq!(rt; refusal(alloc, &[&no_data, &data])?, malformed);
-    assert_eq!(rt; refusal(alloc, &[&one_data])?, malformed);
-    let init: [u8; 10] = [0x0A, 0x08, 0x01, 0x06, 0x00, 0xFC, 0x08, 0x00, 0x00, 0x0B];
-    let drop: [u8; 9] = [0x0A, 0x07, 0x01, 0x05, 0x00, 0xFC, 0x09, 0x00, 0x0B];
-    assert_eq!(rt; refusal(alloc, &[&ONE_FUNCTION, &init, &data])?, malformed);
-    assert_eq!(rt; refusal(alloc, &[&ONE_FUNCTION, &drop, &data])?, malformed);
-    assert_eq!(rt;
-        refusal(alloc, &[&ONE_FUNCTION, &one_data, &init, &data])?,
-        None
-    );
-    assert_eq!(rt;
-        refusal(alloc, &[&ONE_FUNCTION, &one_data, &drop, &data])?,
-        None
-    );
-    let constant: [u8; 9] = [0x06, 0x07, 0x01, 0x7F, 0x00, 0xFC, 0x09, 0x00, 0x0B];
-    assert_eq!(rt; refusal(alloc, &[&constant, &data])?, None);
-    Ok(())
-}
-
-#[test]
-fn element_segments_by_their_flags(rt: HostRuntime) -> Result<(), Fail> {
-    let alloc = rt.alloc();
-    let part: [u8; 53] = [
-        0x09, 0x33, 0x08, 0x00, 0x41, 0x00, 0x0B, 0x01, 0x05, 0x01, 0x00, 0x01, 0x05, 0x02, 0x03,
-        0x41, 0x00, 0x0B, 0x00, 0x01, 0x05, 0x03, 0x00, 0x01, 0x05, 0x04, 0x41, 0x00, 0x0B, 0x01,
-        0xD2, 0x05, 0x0B, 0x05, 0x6F, 0x01, 0xD0, 0x6F, 0x0B, 0x06, 0x04, 0x41, 0x00, 0x0B, 0x70,
-        0x01, 0xD2, 0x05, 0x0B, 0x07, 0x70, 0x00, 0x00,
-    ];
-    assert_eq!(rt; refusal(alloc, &[&part])?, Some(DecodeError::Malformed));
-    let head: [u8; 2] = [0x09, 0x32];
-    let module = sections(alloc, &[&head, &part[2..52]])??;
-    assert_eq!(rt; module.elems.len(), 8);
-    let second = module.elems.get(2).ok_or("no segment")?;
-    assert!(rt; matches!(second.mode, Mode::Active { index: 3, .. }));
-    assert_eq!(rt; second.ty, ValType::FuncRef);
-    let fifth = module.elems.get(5).ok_or("no segment")?;
-    assert_eq!(rt; (fifth.ty, fifth.mode), (ValType::ExternRef, Mode::Passive));
-    let seventh = module.elems.get(7).ok_or("no segment")?;
-    assert_eq!(rt;
-        (seventh.ty, seventh.mode),
-        (ValType::FuncRef, Mode::Declared)
-    );
-    assert_eq!(rt; seventh.items.len(), 0);
     Ok(())
 }
 
 #[test]
 fn blocks_may_nest_as_deep_as_the_file_is_long(rt: HostRuntime) -> Result<(), Fail> {
     let alloc = rt.alloc();
-    let head: [u8; 9] = [0x0A, 0xE6, 0xA7, 0x12, 0x01, 0xE2, 0xA7, 0x12, 0x00];
-    let mut bytes = with_preamble(alloc, &[&ONE_FUNCTION, &head])?;
+    let head = [
+        0x01, 0x04, 0x01, 0x60, 0x00, 0x00, 0x03, 0x02, 0x01, 0x00, 0x0A, 0xE6, 0xA7, 0x12, 0x01,
+        0xE2, 0xA7, 0x12, 0x00,
+    ];
+    let mut bytes = with_preamble(alloc, &head)?;
     for _ in 0..100_000 {
         bytes.extend_from_slice(&[0x02, 0x40])?;
     }
