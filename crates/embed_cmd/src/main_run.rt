@@ -132,8 +132,12 @@ fn asked_transcript<F: Files>(
     match read_asked(alloc, files, asked) {
         Ok(read) => {
             let modules = read.modules.as_slice();
-            let transcript =
-                script_transcript(alloc, read.script.as_slice(), modules, asked.budget)?;
+            let transcript = script_transcript(
+                alloc,
+                read.script.as_slice(),
+                modules,
+                asked.budget,
+            )?;
             Ok(transcript)
         }
         Err(Unread::TooLong(path)) => Ok(too_long(alloc, path.as_str())?),

@@ -48,7 +48,13 @@ impl Exported {
     {
         let left = charge(CALL, left)?;
         let words = words(alloc, self.parameters(), place, arguments)?;
-        match run_small(alloc, self.owner.module(), self.index, words.as_slice(), left)? {
+        match run_small(
+            alloc,
+            self.owner.module(),
+            self.index,
+            words.as_slice(),
+            left,
+        )? {
             Some((word, left)) => Ok((Value::Number(i64::from(word.cast_signed())), left)),
             None => Err(Stop::Budget { needs: 1, left: 0 }),
         }

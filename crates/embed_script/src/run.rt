@@ -153,11 +153,8 @@ impl Run {
                 self.bind(alloc, files, name, file, export, node.place)
             }
             Form::Print { arguments } => self.print(alloc, nodes, arguments.as_slice()),
-            Form::Number(_)
-            | Form::Text(_)
-            | Form::Name(_)
-            | Form::Chain(..)
-            | Form::Call { .. } => unreachable!(),
+            Form::Number(_) | Form::Text(_) | Form::Name(_) | Form::Chain(..) | Form::Call { .. } =>
+                unreachable!(),
         }
     }
 

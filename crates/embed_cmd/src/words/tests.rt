@@ -89,10 +89,16 @@ fn modules_are_read(rt: HostRuntime) -> Result<(), Fail> {
     let cases = [
         ("run|s.js|--module|a=b", "s.js 10000000 a:b"),
         ("run|s.js|--module=a=b", "s.js 10000000 a:b"),
-        ("--module|a=b|run|--module=c=d|s.js|--steps|9", "s.js 9 a:b c:d"),
+        (
+            "--module|a=b|run|--module=c=d|s.js|--steps|9",
+            "s.js 9 a:b c:d",
+        ),
         ("run|s.js|--module=a=b=c", "s.js 10000000 a:b=c"),
         ("run|s.js|--module=-x=p", "s.js 10000000 -x:p"),
-        ("run|s.js|--module=a=b|--module=A=b", "s.js 10000000 a:b A:b"),
+        (
+            "run|s.js|--module=a=b|--module=A=b",
+            "s.js 10000000 a:b A:b",
+        ),
     ];
     all_read(&rt, rt.alloc(), cases.as_slice())
 }
