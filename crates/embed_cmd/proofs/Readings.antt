@@ -14,8 +14,10 @@ use Rattle.embed_script.specs.ModuleFiles.{AreDecodings}
 use Rattle.embed_cmd.specs.declared.words.Asked.{Asked}
 use Rattle.embed_cmd.specs.Transcript.{Contents, AskedFile, IsOfSome, IsAsked, files_of, first_long, IsRunTranscript, IsTheAskedTranscript, IsScriptText, IsScriptTranscript, IsTheScriptTranscript, refused, too_long}
 use Rattle.embed_cmd.specs.AskedFiles.{IsLongPath, AreFilesOf}
-use Rattle.embed_cmd.specs.Headline.{IsTooLongOf}
-use Rattle.embed_cmd.specs.Reading.{IsTree}
+use Rattle.embed_cmd.specs.Headline.{IsTooLongOf, OnTooLongStatus}
+use Rattle.embed_base.specs.declared.status.Status.{Status}
+use Rattle.embed_base.specs.declared.status.Status.TheVariants as statuses
+use Rattle.embed_cmd.specs.Reading.{IsTree, IsTextEnd, IsScriptEnd}
 use Rattle.embed_cmd.proofs.FilesOf.{decoded_forth, decoded_back, some_decodings}
 
 refused_only : (modules : Modules) (budget : ℕ) (bytes : List ℕ) (t : Transcript) → ((d : Script) → IsScriptText bytes d → ⊥) → t ≡ refused → IsTheScriptTranscript modules budget bytes t
@@ -104,3 +106,21 @@ cause_of (file ∷ files) all contents before after path (inr w) = inr (cause_of
 -- why a file was too long
 pub long_cause : (asked : Asked) (contents : Contents) (before after : ℕ) (path : List ℕ) → IsLongPath (files_of asked) contents before after path → IsTooLongOf (files_of asked) contents before after
 long_cause asked contents before after path h = cause_of (files_of asked) (files_of asked) contents before after path h
+
+-- a script's bytes end a run as the files that are asked for may
+pub text_ends : (status : Status) → IsTextEnd status → IsScriptEnd status
+text_ends statuses.TooLong h = tt
+text_ends statuses.Done h = h
+text_ends statuses.Uncaught h = h
+text_ends statuses.Usage h = h
+text_ends statuses.ScriptRefused h = h
+text_ends statuses.Budget h = h
+text_ends statuses.Outside h = h
+text_ends statuses.ReadFault h = h
+text_ends statuses.WriteFault h = h
+text_ends statuses.NoMemory h = h
+
+-- and not by their length
+pub not_too_long : (status : Status) (P : Type 0) → IsTextEnd status → OnTooLongStatus status P
+not_too_long statuses.TooLong P h = absurd h
+not_too_long _ P h = tt

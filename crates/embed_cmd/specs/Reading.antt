@@ -5,6 +5,7 @@ use Rattle.host_parser.specs.Grammar.{Script}
 use Rattle.host_parser.specs.Shows.{ScriptShows}
 use Rattle.embed_base.specs.declared.status.Status.{Status}
 use Rattle.embed_base.specs.declared.status.Status.TheVariants as statuses
+use Rattle.embed_script.specs.Outcome.{IsRunEnd}
 use Rattle.embed_cmd.specs.declared.main_run.Fault.{Fault}
 use Rattle.embed_cmd.specs.declared.main_run.Fault.TheVariants as faults
 use Rattle.embed_cmd.specs.Transcript.{IsScriptText}
@@ -16,15 +17,15 @@ pub record IsTree (bytes : List ℕ) (tree : Tree) : Type 0 where
   pub shown : ScriptShows script tree.nodes tree.top
   pub all : (other : Script) → IsScriptText bytes other → ScriptShows other tree.nodes tree.top
 
--- how a script's file can end a run
+-- how a script's bytes can end a run
+abbrev pub IsTextEnd : Status → Type 0
+IsTextEnd statuses.ScriptRefused = Unit {0}
+IsTextEnd status = IsRunEnd status
+
+-- how the files that are asked for can end a run
 abbrev pub IsScriptEnd : Status → Type 0
-IsScriptEnd statuses.Done = Unit {0}
-IsScriptEnd statuses.ScriptRefused = Unit {0}
-IsScriptEnd statuses.Uncaught = Unit {0}
-IsScriptEnd statuses.Budget = Unit {0}
-IsScriptEnd statuses.Outside = Unit {0}
 IsScriptEnd statuses.TooLong = Unit {0}
-IsScriptEnd _ = ⊥
+IsScriptEnd status = IsTextEnd status
 
 -- a fact that holds where a read failed
 abbrev pub OnRead : {A : Type 0} → Result A Fault → Type 0 → Type 0

@@ -6,7 +6,7 @@ ghost use Rattle.host_parser.specs.Grammar as grammar;
 ghost use Rattle.embed_script.specs.Functions.{Modules};
 ghost use Rattle.embed_script.specs.ModuleFiles.{AreDecodings};
 ghost use Rattle.embed_cmd.specs.Transcript.{IsScriptText, IsTheScriptTranscript, IsTheAskedTranscript, IsAsked, IsOfSome, files_of, IsTheTranscript, TellsAll, most_script_bytes, too_long, refused, usage};
-ghost use Rattle.embed_cmd.specs.Reading.{IsTree, IsScriptEnd, IsTranscriptEnd, OnRead, UnlessRead};
+ghost use Rattle.embed_cmd.specs.Reading.{IsTree, IsTextEnd, IsScriptEnd, IsTranscriptEnd, OnRead, UnlessRead};
 ghost use Rattle.embed_cmd.specs.Headline.{with_more, OnEnd, OnReadFault, OnWriteFault, OnNoMemory, OnUsage, OnTooLongStatus, UnlessReadFault, UnlessWriteFault, WritesAll, WritesPrefix, IsReadFault, IsTooLong, IsTooLongOf};
 
 use crate::asked_files::{Unread, read_asked};
@@ -103,7 +103,7 @@ fn script_transcript(
 ) -> Result<Transcript, AllocError>
     requires { length bytes.now ≤ most_script_bytes }
     ensures exact { IfOk result (λ t. (modules : Modules) → AreDecodings files.now modules → IsTheScriptTranscript modules budget bytes.now t) }
-    ensures end { IfOk result (λ t. IsScriptEnd t.status) }
+    ensures end { IfOk result (λ t. IsTextEnd t.status) }
 {
     match read_script(alloc, bytes)? {
         None => refused(alloc),
@@ -132,8 +132,12 @@ fn asked_transcript<F: Files>(
     match read_asked(alloc, files, asked) {
         Ok(read) => {
             let modules = read.modules.as_slice();
-            let transcript =
-                script_transcript(alloc, read.script.as_slice(), modules, asked.budget)?;
+            let transcript = script_transcript(
+                alloc,
+                read.script.as_slice(),
+                modules,
+                asked.budget,
+            )?;
             Ok(transcript)
         }
         Err(Unread::TooLong(path)) => Ok(too_long(alloc, path.as_str())?),

@@ -77,8 +77,7 @@ values_unroll b (e ∷ es) rest vs left = first_value (sum_value b e left) (valu
 -- the last values of a list, taken off
 off_top : (xs vs : List Value) (n : ℕ) → length xs ≡ n → (reverse (take n (reverse xs ++ vs)) ≡ xs) × (drop n (reverse xs ++ vs) ≡ vs)
 off_top xs vs n is =
-    let same : length (reverse xs) ≡ n = length-reverse xs ∙ is in
-    (
+    let same : length (reverse xs) ≡ n = length-reverse xs ∙ is in (
       ap (λ i. reverse (take i (reverse xs ++ vs))) (sym same) ∙ ap reverse (take-append_seam (reverse xs) vs) ∙ reverse-reverse xs,
       ap (λ i. drop i (reverse xs ++ vs)) (sym same) ∙ drop-append_seam (reverse xs) vs,
     )

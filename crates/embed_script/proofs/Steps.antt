@@ -181,8 +181,7 @@ off_end old n at within is =
     let args = drop at old in
     let kept = take at old in
     let turned : reverse old ≡ reverse args ++ reverse kept = ap reverse (sym (take-append-drop at old)) ∙ reverse-append kept args in
-    let many : length (reverse args) ≡ n = length-reverse args ∙ length-drop at old ∙ omega arith in
-    (
+    let many : length (reverse args) ≡ n = length-reverse args ∙ length-drop at old ∙ omega arith in (
       ap (λ vs. reverse (take n vs)) turned ∙ ap (λ i. reverse (take i (reverse args ++ reverse kept))) (sym many) ∙ ap reverse (take-append_seam (reverse args) (reverse kept)) ∙ reverse-reverse args,
       ap (λ vs. drop n vs) turned ∙ ap (λ i. drop i (reverse args ++ reverse kept)) (sym many) ∙ drop-append_seam (reverse args) (reverse kept),
     )

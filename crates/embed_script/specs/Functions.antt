@@ -15,7 +15,8 @@ use Rattle.wasm_syntax.specs.declared.module.ExportDesc.TheVariants as exports
 use Rattle.wasm_grammar.specs.declared.built.Foreign.{Foreign}
 use Rattle.wasm_grammar.specs.declared.built.Foreign.TheVariants as foreign
 use Rattle.wasm_grammar.specs.Decoding as decoding
-use Rattle.wasm_machine.specs.Small.{is_small, small_result}
+use Rattle.wasm_valid.specs.ModuleRules.{is_typed_module}
+use Rattle.wasm_machine.specs.Small.{is_small_form, small_result}
 use Rattle.embed_script.specs.declared.value.Value.{Value}
 use Rattle.embed_script.specs.declared.value.Value.TheVariants as values
 use Rattle.embed_script.specs.Ends.{End, outside, past_budget, compile_error, and_then, charge, at_place}
@@ -32,9 +33,14 @@ abbrev pub kind_of : Foreign → OutsideKind
 kind_of foreign.Float = kinds.Float
 kind_of foreign.Simd = kinds.Simd
 
--- a module of bytes: malformed ones give an exception, and a type or instruction out of the profile is refused at its byte
+-- a valid module; one that isn't gives an exception
+abbrev pub typed : Module → Result Module End
+typed m = if is_typed_module m then Ok m else Err compile_error
+
+-- a module of bytes: malformed ones and those of no valid module give an exception, and a type or instruction out of the
+-- profile is refused at its byte
 abbrev pub module_of : decoding.Decoded → Result Module End
-module_of (decoding.module_is m) = Ok m
+module_of (decoding.module_is m) = typed m
 module_of decoding.malformed = Err compile_error
 module_of (decoding.outside place what) = Err (outside (record { kind = kind_of what; place = places.Module place }))
 
@@ -59,7 +65,7 @@ exported_index (x ∷ xs) name = if bytes_eq x.name name then index_of x.desc el
 
 -- a module of the small form, and the number of one of its functions
 abbrev pub is_callable : Module → ℕ → Bool
-is_callable m index = is_small m && nat_lt index (length m.funcs)
+is_callable m index = is_small_form m && nat_lt index (length m.funcs)
 
 -- the function that is exported by a name
 abbrev pub function_at : Module → Option ℕ → Result Function OutsideKind

@@ -101,6 +101,14 @@ status_of (uncaught shown) = statuses.Uncaught
 status_of (past_budget needs left) = statuses.Budget
 status_of (outside o) = statuses.Outside
 
+-- how the run of a script can end
+abbrev pub IsRunEnd : Status → Type 0
+IsRunEnd statuses.Done = Unit {0}
+IsRunEnd statuses.Uncaught = Unit {0}
+IsRunEnd statuses.Budget = Unit {0}
+IsRunEnd statuses.Outside = Unit {0}
+IsRunEnd _ = ⊥
+
 -- the lines, and then the line that tells the end
 abbrev pub transcript_of : Outcome → Transcript
 transcript_of o = record { status = status_of o.end; text = text_of_lines o.lines ++ end_line o.end }

@@ -145,7 +145,10 @@ impl Evaluation {
                 push_chain(&mut self.tasks, left.as_slice(), *last)?;
                 Ok(())
             }
-            Form::Call { callee: _, arguments } => {
+            Form::Call {
+                callee: _,
+                arguments,
+            } => {
                 push_call(&mut self.tasks, arguments.as_slice(), id)?;
                 Ok(())
             }

@@ -7,12 +7,12 @@ use crate::stop::Stop;
 use crate::value::Value;
 use std::alloc::Global;
 use wasm_machine::run_small;
-use wasm_syntax::Module;
+use wasm_valid::ValidModule;
 
 /// A function of a module: the module is of the small form, and has a function of this number.
 #[derive(Debug, Drop)]
 pub(crate) struct Exported {
-    pub(crate) owner: Module,
+    pub(crate) owner: ValidModule,
     pub(crate) index: u32,
     pub(crate) ghost callable: { is_callable owner index ≡ true },
 }
@@ -26,10 +26,11 @@ impl Exported {
     fn parameters(&self) -> usize
         ensures { result ≡ parameters_of (function_of self.now) }
     {
-        let Some(function) = self.owner.funcs.get(self.index as usize) else {
+        let owner = self.owner.module();
+        let Some(function) = owner.funcs.get(self.index as usize) else {
             return 0;
         };
-        match self.owner.types.get(function.ty as usize) {
+        match owner.types.get(function.ty as usize) {
             Some(ty) => ty.params.len(),
             None => 0,
         }
@@ -47,7 +48,13 @@ impl Exported {
     {
         let left = charge(CALL, left)?;
         let words = words(alloc, self.parameters(), place, arguments)?;
-        match run_small(alloc, &self.owner, self.index, words.as_slice(), left)? {
+        match run_small(
+            alloc,
+            self.owner.module(),
+            self.index,
+            words.as_slice(),
+            left,
+        )? {
             Some((word, left)) => Ok((Value::Number(i64::from(word.cast_signed())), left)),
             None => Err(Stop::Budget { needs: 1, left: 0 }),
         }

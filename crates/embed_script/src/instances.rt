@@ -1,6 +1,6 @@
 ghost use Rattle.std.specs.Prelude.{◌≡◌, ℕ, List, Some, None, Ok, Err, IfSome, IsSomeAnd, MatchOption, length, ◌≤◌, ◌^◌};
 ghost use Rattle.wasm_grammar.specs.Decoding.{Decoded, Decodes};
-ghost use Rattle.embed_script.specs.Functions.{Modules, decoded_of, module_of, compiled_of, exported_index, exported, instance_of, kind_of};
+ghost use Rattle.embed_script.specs.Functions.{Modules, decoded_of, typed, module_of, compiled_of, exported_index, exported, instance_of, kind_of};
 ghost use Rattle.embed_script.specs.ModuleFiles.{AreDecodings};
 ghost use Rattle.embed_script.specs.Stops.{Meets, MeetsAs};
 ghost use Rattle.embed_script.specs.Tasks.{instance_in, OffersFunction};
@@ -14,6 +14,7 @@ use std::alloc::Global;
 use wasm_grammar::{DecodeError, Foreign, decode};
 use wasm_machine::small;
 use wasm_syntax::{Export, ExportDesc, Module};
+use wasm_valid::{Invalid, ValidModule, validate};
 
 /// The bytes of the file with a name.
 fn file_named<'a>(files: &'a [ModuleFile], name: &str) -> Option<&'a [u8]>
@@ -38,13 +39,24 @@ fn kind(what: Foreign) -> OutsideKind
     }
 }
 
+/// A valid module.
+fn valid_module(alloc: Global, read: Module) -> Result<ValidModule, Stop>
+    ensures { Meets result (typed read) }
+{
+    match validate(alloc, read) {
+        Ok(valid) => Ok(valid),
+        Err(Invalid::Invalid { .. }) => Err(Stop::CompileError),
+        Err(Invalid::NoMemory) => Err(Stop::NoMemory),
+    }
+}
+
 /// The module of a file's bytes.
-fn load_module(alloc: Global, bytes: &[u8]) -> Result<Module, Stop>
+fn load_module(alloc: Global, bytes: &[u8]) -> Result<ValidModule, Stop>
     requires { length bytes.now ≤ 2 ^ 24 }
     ensures { (d : Decoded) → Decodes bytes.now d → Meets result (module_of d) }
 {
     match decode(alloc, bytes) {
-        Ok(module) => Ok(module),
+        Ok(read) => valid_module(alloc, read),
         Err(DecodeError::Malformed) => Err(Stop::CompileError),
         Err(DecodeError::Outside { place, what }) => Err(Stop::Outside(Outside {
             kind: kind(what),
@@ -59,7 +71,7 @@ fn module_named(
     alloc: Global,
     files: &[ModuleFile],
     name: &str,
-) -> Result<Option<Module>, Stop>
+) -> Result<Option<ValidModule>, Stop>
     ensures { (modules : Modules) → AreDecodings files.now modules → Meets result (compiled_of (decoded_of modules name.now)) }
 {
     match file_named(files, name) {
@@ -84,11 +96,12 @@ fn exported_index(exports: &[Export], name: &str) -> Option<u32>
 }
 
 /// The function that a module exports by a name, where the module is of the small form.
-fn exported(owner: Module, name: &str) -> Option<Exported>
+fn exported(owner: ValidModule, name: &str) -> Option<Exported>
     ensures { OffersFunction result (exported (Some owner) name.now) }
 {
-    let index = exported_index(owner.exports.as_slice(), name)?;
-    if small(&owner) && (index as usize) < owner.funcs.len() {
+    let lent = owner.module();
+    let index = exported_index(lent.exports.as_slice(), name)?;
+    if small(lent) && (index as usize) < lent.funcs.len() {
         return Some(Exported { owner, index });
     }
     None

@@ -4,7 +4,7 @@ ghost use Rattle.host_parser.specs.Shows.{SumShows, ScriptShows};
 ghost use Rattle.embed_script.specs.Ends.{done, charge};
 ghost use Rattle.embed_script.specs.Functions.{Modules, instance_of};
 ghost use Rattle.embed_script.specs.Evaluation.{Bindings, value, function, sum_value};
-ghost use Rattle.embed_script.specs.Outcome.{Statement, going, after, bound, effect, performed, line_of, outcome_of, outcome_of_progress, transcript_of, Progress};
+ghost use Rattle.embed_script.specs.Outcome.{Statement, going, after, bound, effect, performed, line_of, outcome_of, outcome_of_progress, transcript_of, Progress, IsRunEnd};
 ghost use Rattle.embed_script.specs.Stops.{MeetsAs, listed_values_of};
 ghost use Rattle.embed_script.specs.Tasks.{IsBoundAs, SumsShow, values_of};
 ghost use Rattle.embed_script.specs.ModuleFiles.{AreDecodings};
@@ -153,11 +153,8 @@ impl Run {
                 self.bind(alloc, files, name, file, export, node.place)
             }
             Form::Print { arguments } => self.print(alloc, nodes, arguments.as_slice()),
-            Form::Number(_)
-            | Form::Text(_)
-            | Form::Name(_)
-            | Form::Chain(..)
-            | Form::Call { .. } => unreachable!(),
+            Form::Number(_) | Form::Text(_) | Form::Name(_) | Form::Chain(..) | Form::Call { .. } =>
+                unreachable!(),
         }
     }
 
@@ -185,7 +182,8 @@ impl Run {
 impl Run {
     /// The transcript of a run that stopped.
     fn stopped(self, stop: Stop) -> Result<Transcript, AllocError>
-        ensures { (p : Progress) → Performs {A = Unit {0}} (Err stop) p self → IfOk result (λ t. t ≡ transcript_of (outcome_of_progress p)) }
+        ensures exact { (p : Progress) → Performs {A = Unit {0}} (Err stop) p self → IfOk result (λ t. t ≡ transcript_of (outcome_of_progress p)) }
+        ensures end { IfOk result (λ t. IsRunEnd t.status) }
     {
         let Run {
             names: _,
@@ -220,7 +218,8 @@ impl Run {
 
     /// The transcript of a run that came to the script's end.
     fn done(self) -> Transcript
-        ensures { (lines : List (List ℕ)) → HasPrinted lines self → result ≡ transcript_of (record { lines = lines; end = done }) }
+        ensures exact { (lines : List (List ℕ)) → HasPrinted lines self → result ≡ transcript_of (record { lines = lines; end = done }) }
+        ensures end { IsRunEnd result.status }
     {
         let Run {
             names: _,
@@ -243,7 +242,8 @@ fn perform_all(
     budget: u64,
 ) -> Result<Transcript, AllocError>
     requires { (d : grammar.Script) × ScriptShows d nodes.now ids.now }
-    ensures { (d : grammar.Script) → ScriptShows d nodes.now ids.now → (modules : Modules) → AreDecodings files.now modules → IfOk result (λ t. t ≡ transcript_of (outcome_of modules budget d)) }
+    ensures exact { (d : grammar.Script) → ScriptShows d nodes.now ids.now → (modules : Modules) → AreDecodings files.now modules → IfOk result (λ t. t ≡ transcript_of (outcome_of modules budget d)) }
+    ensures end { IfOk result (λ t. IsRunEnd t.status) }
 {
     let mut run = Run {
         names: HashMap::new(alloc),
@@ -267,7 +267,11 @@ pub fn run_script(
     budget: u64,
 ) -> Result<Transcript, AllocError>
     requires { (d : grammar.Script) × ScriptShows d script.now.nodes script.now.top }
-    ensures { (d : grammar.Script) → ScriptShows d script.now.nodes script.now.top → (modules : Modules) → AreDecodings files.now modules → IfOk result (λ t. t ≡ transcript_of (outcome_of modules budget d)) }
+    // The transcript is that of the script's definition, over what the files' bytes decode to.
+    ensures exact { (d : grammar.Script) → ScriptShows d script.now.nodes script.now.top → (modules : Modules) → AreDecodings files.now modules → IfOk result (λ t. t ≡ transcript_of (outcome_of modules budget d)) }
+
+    // Whatever the bytes decode to, the status is that of a run.
+    ensures end { IfOk result (λ t. IsRunEnd t.status) }
 {
     perform_all(
         alloc,

@@ -1,6 +1,7 @@
 use super::read_words;
 use embed_base::limits::MOST_MODULES;
 use std::alloc::Global;
+use std::process::Abort;
 use std::test::Fail;
 
 // The words that stand between bars.
@@ -26,20 +27,20 @@ fn told(alloc: Global, words: &[String]) -> Result<String, Fail> {
 }
 
 // Each line asks for what is told beside it.
-fn all_read(rt: &HostRuntime, cases: &[(&str, &str)]) -> Result<(), Fail> {
+fn all_read(rt: &impl Abort, alloc: Global, cases: &[(&str, &str)]) -> Result<(), Fail> {
     for (line, expected) in cases {
-        let words = split(rt.alloc(), line)?;
-        let got = told(rt.alloc(), words.as_slice())?;
+        let words = split(alloc, line)?;
+        let got = told(alloc, words.as_slice())?;
         assert_eq!(rt; got.as_str(), *expected, "at {line}");
     }
     Ok(())
 }
 
 // Each line is no command line.
-fn all_refused(rt: &HostRuntime, lines: &[&str]) -> Result<(), Fail> {
+fn all_refused(rt: &impl Abort, alloc: Global, lines: &[&str]) -> Result<(), Fail> {
     for line in lines {
-        let words = split(rt.alloc(), line)?;
-        let got = told(rt.alloc(), words.as_slice())?;
+        let words = split(alloc, line)?;
+        let got = told(alloc, words.as_slice())?;
         assert_eq!(rt; got.as_str(), "usage", "at {line}");
     }
     Ok(())
@@ -56,7 +57,7 @@ fn budgets_are_read(rt: HostRuntime) -> Result<(), Fail> {
         ("run|s.js|--steps|1000000000000", "s.js 1000000000000"),
         ("run|s.js|--steps=0000000000007", "s.js 7"),
     ];
-    all_read(&rt, cases.as_slice())
+    all_read(&rt, rt.alloc(), cases.as_slice())
 }
 
 #[test]
@@ -80,7 +81,7 @@ fn faulty_budgets_are_refused(rt: HostRuntime) -> Result<(), Fail> {
         "run|--steps=5",
         "--steps5|run|s.js",
     ];
-    all_refused(&rt, lines.as_slice())
+    all_refused(&rt, rt.alloc(), lines.as_slice())
 }
 
 #[test]
@@ -88,12 +89,18 @@ fn modules_are_read(rt: HostRuntime) -> Result<(), Fail> {
     let cases = [
         ("run|s.js|--module|a=b", "s.js 10000000 a:b"),
         ("run|s.js|--module=a=b", "s.js 10000000 a:b"),
-        ("--module|a=b|run|--module=c=d|s.js|--steps|9", "s.js 9 a:b c:d"),
+        (
+            "--module|a=b|run|--module=c=d|s.js|--steps|9",
+            "s.js 9 a:b c:d",
+        ),
         ("run|s.js|--module=a=b=c", "s.js 10000000 a:b=c"),
         ("run|s.js|--module=-x=p", "s.js 10000000 -x:p"),
-        ("run|s.js|--module=a=b|--module=A=b", "s.js 10000000 a:b A:b"),
+        (
+            "run|s.js|--module=a=b|--module=A=b",
+            "s.js 10000000 a:b A:b",
+        ),
     ];
-    all_read(&rt, cases.as_slice())
+    all_read(&rt, rt.alloc(), cases.as_slice())
 }
 
 #[test]
@@ -109,7 +116,7 @@ fn faulty_modules_are_refused(rt: HostRuntime) -> Result<(), Fail> {
         "run|s.js|--module|--steps|5",
         "run|s.js|--module=a=b|--module=a=c",
     ];
-    all_refused(&rt, lines.as_slice())
+    all_refused(&rt, rt.alloc(), lines.as_slice())
 }
 
 #[test]
@@ -119,7 +126,7 @@ fn paths_are_read(rt: HostRuntime) -> Result<(), Fail> {
         ("run|run", "run 10000000"),
         ("run|s=t.js", "s=t.js 10000000"),
     ];
-    all_read(&rt, cases.as_slice())
+    all_read(&rt, rt.alloc(), cases.as_slice())
 }
 
 #[test]
@@ -141,7 +148,7 @@ fn faulty_words_are_refused(rt: HostRuntime) -> Result<(), Fail> {
         "--step=5|run|s.js",
         "run|s.js|--Module=a=b",
     ];
-    all_refused(&rt, lines.as_slice())
+    all_refused(&rt, rt.alloc(), lines.as_slice())
 }
 
 #[test]

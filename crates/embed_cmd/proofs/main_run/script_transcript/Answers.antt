@@ -13,4 +13,4 @@ returns-in-None-clause-exact c =
 pub returns-in-Some-clause-exact : goal.returns-in-Some-clause-exact
 returns-in-Some-clause-exact c =
     ran_bytes c.args.files.now c.args.budget c.args.bytes.now c.in-Some.script c.run_script.result
-    (subst (λ o. MatchOption o ((d : Script) → IsScriptText c.args.bytes.now d → ⊥) (λ tree. IsTree c.args.bytes.now tree)) c.in-Some.is c.in_ok-read_script.ensures) c.run_script.ensures
+    (subst (λ o. MatchOption o ((d : Script) → IsScriptText c.args.bytes.now d → ⊥) (λ tree. IsTree c.args.bytes.now tree)) c.in-Some.is c.in_ok-read_script.ensures) c.run_script.ensures.exact

@@ -57,7 +57,9 @@ fn over(alloc: Global, steps: &str, bytes: &[u8], script: &str) -> Result<String
 
 // The item that binds a name to an export of `m`.
 fn item(alloc: Global, name: &str, export: &str) -> Result<String, Fail> {
-    let text = format!(in alloc; "let {name} = new WebAssembly.Instance(new WebAssembly.Module(readbuffer(\"m\"))).exports.{export};")?;
+    let text = format!(in alloc;
+        "let {name} = new WebAssembly.Instance(new WebAssembly.Module(readbuffer(\"m\"))).exports.{export};"
+    )?;
     Ok(text)
 }
 
@@ -71,7 +73,11 @@ fn a_function_of_a_module_is_called(rt: HostRuntime) -> Result<(), Fail> {
     for steps in 0..18u32 {
         let word = format!(in alloc; "--steps={steps}")?;
         let got = over(alloc, word.as_str(), ADD.as_slice(), script.as_str())?;
-        assert_eq!(rt; got.as_str(), "Budget|budget: needs 1, left 0\n", "at {steps}");
+        assert_eq!(rt;
+            got.as_str(),
+            "Budget|budget: needs 1, left 0\n",
+            "at {steps}"
+        );
     }
     Ok(())
 }
@@ -115,7 +121,10 @@ fn exports_are_found_by_their_names(rt: HostRuntime) -> Result<(), Fail> {
         ("print(a(s(1), d(s())));", "Done|13\n"),
         ("print(d(0 - 2147483648), d());", "Done|2147483647 -1\n"),
         ("print(a(4294967296 + 5, 0 - 1));", "Done|4\n"),
-        ("print(a(0 - 9007199254740991, 9007199254740991,));", "Done|0\n"),
+        (
+            "print(a(0 - 9007199254740991, 9007199254740991,));",
+            "Done|0\n",
+        ),
         ("print(a(2, 3) * d(5) - 1);", "Done|19\n"),
         ("print(\"x\" + a(2, 3));", "Done|x5\n"),
     ];
@@ -181,7 +190,8 @@ fn items_end_the_run_after_their_charges(rt: HostRuntime) -> Result<(), Fail> {
 #[test]
 fn names_that_no_word_gave_are_refused(rt: HostRuntime) -> Result<(), Fail> {
     let alloc = rt.alloc();
-    let script = " let f = new WebAssembly.Instance(new WebAssembly.Module(readbuffer(\"n\"))).exports.add;";
+    let script =
+        " let f = new WebAssembly.Instance(new WebAssembly.Module(readbuffer(\"n\"))).exports.add;";
     let got = over(alloc, "--steps=3", ADD.as_slice(), script)?;
     assert_eq!(rt; got.as_str(), "Budget|budget: needs 1, left 0\n");
     let got = over(alloc, "--steps=4", ADD.as_slice(), script)?;

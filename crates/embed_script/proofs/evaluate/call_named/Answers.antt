@@ -10,12 +10,12 @@ use Rattle.embed_script.proofs.evaluate.call_named.Goals as goal
 pub returns-in-Some-Function : goal.returns-in-Some-Function
 returns-in-Some-Function c = λ b bound.
     let same = found b c.args.names.now c.args.name.now (option_copied c.get.result) bound (c.get.ensures.value ∙ ap (get_by_text c.args.names.now) c.as_str.ensures)
-        ∙ ap (λ r. option_map binding_of (option_copied r)) c.in-Some-Function.is ∙ ap (λ x. Some (binding_of x)) c.in-Some-Function.field-0-is in
+    ∙ ap (λ r. option_map binding_of (option_copied r)) c.in-Some-Function.is ∙ ap (λ x. Some (binding_of x)) c.in-Some-Function.field-0-is in
     subst (λ o. Meets c.call.result (called c.args.place o c.args.arguments.now c.args.left)) (sym same) c.call.ensures
 
 pub returns-in-Some-Value : goal.returns-in-Some-Value
 returns-in-Some-Value c = λ b bound.
     let same = found b c.args.names.now c.args.name.now (option_copied c.get.result) bound (c.get.ensures.value ∙ ap (get_by_text c.args.names.now) c.as_str.ensures)
-        ∙ ap (λ r. option_map binding_of (option_copied r)) c.in-Some-Value.is ∙ ap (λ x. Some (binding_of x)) c.in-Some-Value.field-0-is in
+    ∙ ap (λ r. option_map binding_of (option_copied r)) c.in-Some-Value.is ∙ ap (λ x. Some (binding_of x)) c.in-Some-Value.field-0-is in
     subst (λ s. Ends s (called c.args.place (b c.args.name.now) c.args.arguments.now c.args.left)) (sym c.refuse.ensures)
     (ap (λ o. called c.args.place o c.args.arguments.now c.args.left) same)

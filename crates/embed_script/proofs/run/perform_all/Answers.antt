@@ -12,11 +12,11 @@ loop-id-init c = record {
 pub perform-requires : goal.perform-requires
 perform-requires c = (cut_first c.args.nodes.now c.args.ids.now c.loop-id.id-index (record { 0 = 0 }) c.loop-id-test.true (c.loop-id.invariant.shown c.requires.0 c.requires.1)).0
 
-pub returns-in-Err : goal.returns-in-Err
-returns-in-Err c = λ d shows modules decoded.
+pub returns-in-Err-clause-exact : goal.returns-in-Err-clause-exact
+returns-in-Err-clause-exact c = λ d shows modules decoded.
     let left = c.loop-id.invariant.run d shows modules decoded in
     let f = first_left modules c.args.nodes.now c.args.budget d c.args.ids.now c.loop-id.id-index (record { 0 = 0 }) c.loop-id.run c.loop-id-test.true left in
-    c.stopped.ensures (run_of modules c.args.budget d) (stopped_left modules c.args.budget d c.perform.new.self c.in-Err.stop (performed modules (going left.bindings c.loop-id.run.left left.lines) f.first) f.rest
+    c.stopped.ensures.exact (run_of modules c.args.budget d) (stopped_left modules c.args.budget d c.perform.new.self c.in-Err.stop (performed modules (going left.bindings c.loop-id.run.left left.lines) f.first) f.rest
     (c.in-Err.ensures modules decoded left.bindings left.lines left.is_bound left.printed f.first f.first_shown) f.gives)
 
 pub loop-id-preserved : goal.loop-id-preserved
@@ -29,9 +29,9 @@ loop-id-preserved c = record {
       (c.in-Ok.ensures modules decoded left.bindings left.lines left.is_bound left.printed f.first f.first_shown) f.rest_shown f.gives;
 }
 
-pub returns : goal.returns
-returns c = λ d shows modules decoded.
+pub returns-clause-exact : goal.returns-clause-exact
+returns-clause-exact c = λ d shows modules decoded.
     let left = c.loop-id.invariant.run d shows modules decoded in
     let at_end : c.loop-id.id-index ≡ length c.args.ids.now = omega arith in
     let is = done_outcome modules c.args.nodes.now c.args.budget d c.args.ids.now c.loop-id.id-index c.loop-id.run at_end left in
-    c.done.ensures left.lines left.printed ∙ sym (ap transcript_of is)
+    c.done.ensures.exact left.lines left.printed ∙ sym (ap transcript_of is)

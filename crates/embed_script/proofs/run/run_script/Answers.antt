@@ -2,8 +2,8 @@ use Rattle.std.proofs.Common.{subst, sym}
 use Rattle.host_parser.specs.Shows.{ScriptShows}
 use Rattle.embed_script.proofs.run.run_script.Goals as goal
 
-pub returns : goal.returns
-returns c = λ d shows modules decoded.
-    c.perform_all.ensures d
+pub returns-clause-exact : goal.returns-clause-exact
+returns-clause-exact c = λ d shows modules decoded.
+    c.perform_all.ensures.exact d
     (subst (λ nodes. ScriptShows d nodes c.as_slice-2.result.now) (sym c.as_slice.ensures) (subst (λ ids. ScriptShows d c.args.script.now.nodes ids) (sym c.as_slice-2.ensures) shows))
     modules decoded
