@@ -1,5 +1,7 @@
 pub mod Spaces
 pub mod Sorts
 pub mod Operands
+pub mod Piles
+pub mod Signatures
 pub mod Typing
 pub mod ModuleRules
