@@ -1,2 +1,3 @@
 mod Cases
 pub mod PileLaws
+pub mod SpaceLaws

@@ -4,4 +4,5 @@
 mod operands;
 mod signature;
 mod sorts;
+mod spaces;
 mod types;

@@ -54,7 +54,7 @@ fn one_type(ty: ValType) -> &'static [ValType]
 
 /// The types of a list, lent.
 pub fn types_of(module: &Module, types: Types) -> &[ValType]
-    ensures { result.now ≡ types_in module.now types }
+    ensures { result.now ≡ types_in «module».now types }
 {
     match types {
         Types::Empty => &[],
