@@ -1,3 +1,4 @@
 mod Cases
 pub mod PileLaws
 pub mod SpaceLaws
+pub mod LocalLaws

@@ -1,6 +1,7 @@
 //! The validator of WebAssembly modules (WebAssembly Core 2.0, chapter 3).
 #![tactic(auto)]
 
+mod locals;
 mod operands;
 mod signature;
 mod sorts;
