@@ -4,5 +4,6 @@ pub mod Operands
 pub mod Piles
 pub mod Signatures
 pub mod Views
+pub mod Places
 pub mod Typing
 pub mod ModuleRules

@@ -83,14 +83,14 @@ abbrev pub calls : FuncType → Operands → Option Operands
 calls g s = exchange (reverse g.params) (reverse g.results) s
 
 -- each of these labels has as many types as are asked for, and they fit the topmost operands
-abbrev pub all_fit : Context → ℕ → List ℕ → Operands → Bool
-all_fit c n [] s = true
-all_fit c n (l ∷ ls) s =
-    is_some (then_ (slice_get c.labels l) (λ ts. when (length ts == n) (take_all (reverse ts) s))) && all_fit c n ls s
+abbrev pub all_fit : List (List ValType) → ℕ → List ℕ → Operands → Bool
+all_fit labels n [] s = true
+all_fit labels n (l ∷ ls) s =
+    is_some (then_ (slice_get labels l) (λ ts. when (length ts == n) (take_all (reverse ts) s))) && all_fit labels n ls s
 
 -- 3.3.8: a choice between labels
-abbrev pub after_table : Context → List ℕ → List ValType → Operands → Option Operands
-after_table c ls ts s = when (all_fit c (length ts) ls s) (leaves (reverse ts) s)
+abbrev pub after_table : List (List ValType) → List ℕ → List ValType → Operands → Option Operands
+after_table labels ls ts s = when (all_fit labels (length ts) ls s) (leaves (reverse ts) s)
 
 -- 3.3.4: a select with its types has one
 abbrev pub after_select : List ValType → Operands → Option Operands
@@ -112,7 +112,7 @@ abbrev pub after_other : Module → Context → Instr → Operands → Option Op
 after_other m c i.Unreachable s = Some anything
 after_other m c (i.Br l) s = then_ (slice_get c.labels l) (λ ts. leaves (reverse ts) s)
 after_other m c (i.BrIf l) s = then_ (slice_get c.labels l) (λ ts. then_ (take_one v.I32 s) (exchange (reverse ts) (reverse ts)))
-after_other m c (i.BrTable ls l) s = then_ (slice_get c.labels l) (λ ts. then_ (take_one v.I32 s) (after_table c ls ts))
+after_other m c (i.BrTable ls l) s = then_ (slice_get c.labels l) (λ ts. then_ (take_one v.I32 s) (after_table c.labels ls ts))
 after_other m c i.Return s = leaves (reverse c.results) s
 after_other m c (i.Call x) s = then_ (func_type m x) (λ g. calls g s)
 after_other m c (i.CallIndirect x y) s =

@@ -1,7 +1,9 @@
 //! The validator of WebAssembly modules (WebAssembly Core 2.0, chapter 3).
 #![tactic(auto)]
 
+mod flat;
 mod locals;
+mod opens;
 mod operands;
 mod signature;
 mod sorts;
