@@ -2,3 +2,4 @@ mod Cases
 pub mod PileLaws
 pub mod SpaceLaws
 pub mod LocalLaws
+pub mod PlaceLaws
