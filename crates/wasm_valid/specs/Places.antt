@@ -9,7 +9,12 @@ use Rattle.wasm_syntax.specs.declared.module.Module.{Module}
 use Rattle.wasm_valid.specs.declared.sorts.Nesting.{Nesting}
 use Rattle.wasm_valid.specs.declared.opens.Open.{Open}
 use Rattle.wasm_valid.specs.declared.opens.Outer.{Outer}
+use Rattle.wasm_valid.specs.declared.opens.Opens.{Opens}
+use Rattle.wasm_valid.specs.declared.types.Types.{Types}
+use Rattle.wasm_valid.specs.declared.pass.Step.{Step}
+use Rattle.wasm_valid.specs.declared.pass.Step.TheVariants.{Went, Untyped, Ended}
 use Rattle.wasm_valid.specs.Sorts.{nesting_of}
+use Rattle.wasm_valid.specs.Piles.{Pile}
 use Rattle.wasm_valid.specs.Operands.{Operands, put, ends_with}
 use Rattle.wasm_valid.specs.Signatures.{types_in}
 use Rattle.wasm_valid.specs.Typing.{Context, after_all, is_block, most_nested, other_is, height_all, block_height, other_height}
@@ -125,3 +130,53 @@ pub record Steps (m : Module) (F : Frame) (p : Place) (n : ℕ) (q : Place) (k :
   pub height : left_typed m F q ≡ true → max n (left_height m F p) ≡ max k (left_height m F q)
   pub work : left_work m q < left_work m p
   pub place : IsPlace q
+
+-- an open block one instruction on
+abbrev pub next_open : Open → Open
+next_open o = record o { at = o.at + 1 }
+
+abbrev pub label_by : Bool → Types → Types → Types
+label_by true ps rs = ps
+label_by false ps rs = rs
+
+-- the block that an instruction opens
+abbrev pub opened_by : Nesting → Types → Types → Open
+opened_by n params results = record { block = n.body; at = 0; label = label_by n.again params results; params = params; results = results; second = n.other }
+
+-- what the code keeps of a place
+abbrev pub place_of : Pile → Opens → Place
+place_of pile opens = record { top = opens.top; own = pile.own; outer = reverse opens.outer.items; under = pile.under }
+
+-- a transition to another place, or the answer that what is left isn't typed
+abbrev pub Goes : Module → Frame → Place → ℕ → Bool → Place → Type 0
+Goes m F p n true q = Steps m F p n q n
+Goes m F p n false q = left_typed m F p ≡ false
+
+-- a transition to another place, one that isn't typed, or the end
+abbrev pub Moves : Module → Frame → Place → ℕ → Step → Place → ℕ → Type 0
+Moves m F p n Went q k = Steps m F p n q k
+Moves m F p n Untyped q k = left_typed m F p ≡ false
+Moves m F p n Ended q k = (left_typed m F p ≡ true) × (k ≡ max n (left_height m F p))
+
+-- a body that isn't typed, or one with its height
+abbrev pub BodyIs : Bool → ℕ → Option ℕ → Type 0
+BodyIs typed height None = typed ≡ false
+BodyIs typed height (Some h) = (typed ≡ true) × (h ≡ height)
+
+-- the next instruction of an open block is one that holds blocks
+abbrev pub NestsAt : Module → Open → Nesting → Type 0
+NestsAt m o n = (i : Instr) × (rest_of m o ≡ i ∷ rest_of m (next_open o)) × (nesting_of i ≡ Some n)
+
+-- the block round one that has ended, which goes on with its results
+pub record ClosesTo (m : Module) (p q : Place) : Type 0 where
+  pub round : Outer
+  pub outer : p.outer ≡ round ∷ q.outer
+  pub top : q.top ≡ round.open
+  pub own : q.own ≡ put (map Some (reverse (types_in m p.top.results))) (own_of round p.under)
+  pub under : q.under ≡ under_of round p.under
+
+-- it goes on, or the body has ended with its own results
+abbrev pub Closes : Module → Place → ℕ → Step → Place → ℕ → Type 0
+Closes m p n Went q k = ClosesTo m p q × (k ≡ n)
+Closes m p n Untyped q k = ⊥
+Closes m p n Ended q k = (p.outer ≡ []) × (k ≡ max n (length (types_in m p.top.results) + length p.under))

@@ -4,6 +4,7 @@
 mod flat;
 mod locals;
 mod opens;
+mod pass;
 mod operands;
 mod signature;
 mod sorts;
