@@ -1,5 +1,6 @@
 -- Laws of the places of a body.
 use Rattle.std.proofs.Common.{◌≡◌, ℕ, zero, suc, ◌+◌, ◌-◌, ◌*◌, ◌<◌, ◌≤◌, max, Bool, true, false, ◌&&◌, List, [], ◌∷◌, ◌++◌, Option, Some, None, length, reverse, map, take, drop, get_or, refl, sym, ◌∙◌, ap, subst, arith, is_some}
+use Rattle.std.proofs.Math.Nat.{sub-zero}
 use Rattle.std.specs.Prelude.{slice_get}
 use Rattle.std.proofs.lemmas.List.{get_or-reverse, length-reverse, drop_more, drop_all, take_at, drop_at, length-append, length-drop, length-map, length-take-le, reverse-append, append-nil}
 use Rattle.wasm_syntax.specs.Blocks.{block_of}
@@ -16,13 +17,15 @@ use Rattle.wasm_valid.specs.declared.operands.Saved.{Saved}
 use Rattle.wasm_valid.specs.declared.pass.Step.{Step}
 use Rattle.wasm_valid.specs.declared.pass.Step.TheVariants.{Went, Untyped, Ended}
 use Rattle.wasm_valid.specs.declared.types.Types.{Types}
+use Rattle.wasm_valid.specs.declared.types.Types.TheVariants as y
 use Rattle.wasm_valid.specs.Spaces.{when, then_, block_type}
 use Rattle.wasm_valid.specs.Sorts.{nesting_of}
 use Rattle.wasm_valid.specs.Operands.{Operands, exactly, put, take_one, take_all, exchange, ends_with, is_spent, is_empty}
 use Rattle.wasm_valid.specs.Signatures.{types_in}
-use Rattle.wasm_valid.specs.Piles.{Becomes}
+use Rattle.wasm_valid.specs.declared.opens.Opens.{Opens}
+use Rattle.wasm_valid.specs.Piles.{Becomes, Pile}
 use Rattle.wasm_valid.specs.Typing.{Blocks, Heights, by_nesting, Context, after, after_all, after_flat, after_nested, holding, tested, label_of, with_label, calls, is_block, most_nested, other_is, height_all, height_on, height_within, block_height, other_height, count_at}
-use Rattle.wasm_valid.specs.Places.{Goes, Moves, Closes, ClosesTo, BodyIs, NestsAt, next_open, label_by, opened_by, place_of, Frame, Place, IsPlace, IsStacked, Steps, labels_in, context_in, type_in, depth_in, rest_of, rest_typed, own_of, under_of, outer_typed, left_typed, rest_height, outer_height, left_height, code_work, nested_work, other_work, block_work, rest_work, outer_work, left_work}
+use Rattle.wasm_valid.specs.Places.{Goes, Moves, Closes, ClosesTo, BodyIs, step_of, start_of, frame_of, Reached, NestsAt, next_open, label_by, opened_by, place_of, Frame, Place, IsPlace, IsStacked, Steps, labels_in, context_in, type_in, depth_in, rest_of, rest_typed, own_of, under_of, outer_typed, left_typed, rest_height, outer_height, left_height, code_work, nested_work, other_work, block_work, rest_work, outer_work, left_work}
 
 pub slice_get-map : {X Y : Type 0} (f : X → Y) (xs : List X) (k : ℕ) (d : X) → k < length xs → slice_get (map f xs) k ≡ Some (f (get_or xs k d))
 slice_get-map f [] k d h = absurd (omega arith)
@@ -320,7 +323,7 @@ module _ (m : Module) (F : Frame) (top : Open) (os : List Outer) (own : Operands
     place = record { stacked = (omega (arith, under_more), p.stacked); nested = omega arith };
   }
 
-same_place : (t t' : Open) (o o' : Operands) (os os' : List Outer) (u u' : List (Option ValType)) → t ≡ t' → o ≡ o' → os ≡ os' → u ≡ u'
+pub same_place : (t t' : Open) (o o' : Operands) (os os' : List Outer) (u u' : List (Option ValType)) → t ≡ t' → o ≡ o' → os ≡ os' → u ≡ u'
     → ◌≡◌ {A = Place} (record { top = t; own = o; outer = os; under = u }) (record { top = t'; own = o'; outer = os'; under = u' })
 same_place t t' o o' os os' u u' e f g h =
     ap (λ (x : Open). record { top = x; own = o; outer = os; under = u }) e
@@ -544,3 +547,104 @@ end_moves m F top os own r under under' n k Ended q at e f h p u closes =
     let P : List Outer → Type 0 = λ xs. (left_typed m F (record { top = top; own = own; outer = xs; under = under }) ≡ true) × (k ≡ max n (left_height m F (record { top = top; own = own; outer = xs; under = under }))) in
     let both = end_body m F top own under n at e f h in
     subst P (sym closes.0) (both.0 , closes.1 ∙ ap (λ us. max n (length (types_in m top.results) + length us)) u ∙ both.1)
+
+-- Steps.
+
+pub goes_moves : (m : Module) (F : Frame) (p : Place) (n k : ℕ) (fine : Bool) (q : Place) → Goes m F p n fine q → k ≡ n → Moves m F p n (step_of fine) q k
+goes_moves m F p n k true q h e = step_to m F p q q n k h refl e
+goes_moves m F p n k false q h e = h
+
+place_least : (m : Module) (F : Frame) (p : Place) → length p.own.types + length p.under ≤ left_height m F p
+unfolding left_height
+place_least m F p =
+    let least = height_least (block_height m (depth_in p.outer)) (is_block m (depth_in p.outer)) m (context_in m F p.top p.outer) (rest_of m p.top) p.own in
+    omega (arith, least)
+
+absorbs : (n n' L H : ℕ) → n' ≡ max n L → L ≤ H → max n' H ≡ max n H
+absorbs n n' L H e h = omega arith
+
+-- the operands of a place are among those that are left to be counted
+pub note_moves : (m : Module) (F : Frame) (p : Place) (n n' : ℕ) (step : Step) (q : Place) (k : ℕ) → n' ≡ max n (length p.own.types + length p.under)
+    → Moves m F p n' step q k → Moves m F p n step q k
+note_moves m F p n n' Went q k e h = record {
+  typed = h.typed;
+  height = λ t. sym (absorbs n n' _ _ e (place_least m F p)) ∙ h.height t;
+  work = h.work;
+  place = h.place;
+}
+note_moves m F p n n' Untyped q k e h = h
+note_moves m F p n n' Ended q k e h = (h.0 , h.1 ∙ absorbs n n' _ _ e (place_least m F p))
+
+-- where a block has no more instructions, and where it has
+pub rest_ends : (m : Module) (o : Open) (code : List Instr) → code ≡ block_of m o.block → length code ≤ o.at → rest_of m o ≡ []
+rest_ends m o code e h = ap (drop o.at) (sym e) ∙ drop_all o.at code h
+
+pub rest_begins : (m : Module) (o : Open) (code : List Instr) (i : Instr) → code ≡ block_of m o.block → o.at < length code → i ≡ get_or code o.at i
+    → rest_of m o ≡ i ∷ rest_of m (next_open o)
+rest_begins m o code i e h f = ap (drop o.at) (sym e) ∙ drop_more code o.at i h ∙ ap (λ x. x ∷ drop (o.at + 1) code) (sym f) ∙ ap (λ k. i ∷ drop (o.at + 1) k) e
+
+-- the place is the same where only the count changed
+pub same_after_note : (a b : Pile) (s t : Opens) → a ≡ b → s ≡ t → place_of a s ≡ place_of b t
+same_after_note a b s t e f = ap (λ (x : Pile). place_of x s) e ∙ ap (λ (x : Opens). place_of b x) f
+
+pub place_after_note : (a b : Pile) (s t : Opens) → a ≡ b → s ≡ t → IsPlace (place_of b t) → IsPlace (place_of a s)
+place_after_note a b s t e f p = subst IsPlace (sym (same_after_note a b s t e f)) p
+
+pub counted_after_note : (a b : Pile) (n n' : ℕ) → a ≡ b → n' ≡ max n (length b.own.types + length b.under) → length a.own.types + length a.under ≤ n'
+counted_after_note a b n n' e f = omega (arith, ap (λ (x : Pile). length x.own.types + length x.under) e)
+
+pub moves_after_note : (m : Module) (F : Frame) (a b : Pile) (s t : Opens) (n n' k : ℕ) (step : Step) (q : Place) → a ≡ b → s ≡ t → n' ≡ max n (length b.own.types + length b.under)
+    → Moves m F (place_of a s) n' step q k → Moves m F (place_of b t) n step q k
+moves_after_note m F a b s t n n' k step q e f g h =
+    let P : Place → Type 0 = λ p. Moves m F p n' step q k in
+    note_moves m F (place_of b t) n n' step q k g (subst P (same_after_note a b s t e f) h)
+
+pub went_moves : (m : Module) (F : Frame) (a b : Pile) (s t : Opens) (n n' k : ℕ) (fine : Bool) (step : Step) (q : Place) → a ≡ b → s ≡ t → n' ≡ max n (length b.own.types + length b.under)
+    → step ≡ step_of fine → k ≡ n' → Goes m F (place_of a s) n' fine q → Moves m F (place_of b t) n step q k
+went_moves m F a b s t n n' k fine step q e f g w l h =
+    let P : Step → Type 0 = λ x. Moves m F (place_of b t) n x q k in
+    subst P (sym w) (moves_after_note m F a b s t n n' k (step_of fine) q e f g (goes_moves m F (place_of a s) n' k fine q h l))
+
+-- The whole pass.
+
+pub start_reached : (m : Module) (F : Frame) (body : BlockId) (ty : ℕ) (q : Place) (n : ℕ) → q ≡ start_of body ty → n ≡ 0 → Reached m F (start_of body ty) q n
+start_reached m F body ty q n e f =
+    let P : Place → Type 0 = λ x. Reached m F (start_of body ty) x n in
+    subst P (sym e) (record {
+      place = record { stacked = tt; nested = omega arith };
+      typed = refl;
+      height = λ _. ap (λ k. max k (left_height m F (start_of body ty))) (sym f);
+    })
+
+pub reached_on : (m : Module) (F : Frame) (p q r : Place) (n k : ℕ) → Reached m F p q n → Steps m F q n r k → Reached m F p r k
+reached_on m F p q r n k h s = record {
+  place = s.place;
+  typed = h.typed ∙ s.typed;
+  height = λ t. h.height (s.typed ∙ t) ∙ s.height t;
+}
+
+start_typed : (m : Module) (F : Frame) (body : BlockId) (ty : ℕ) → left_typed m F (start_of body ty)
+    ≡ is_block m (suc most_nested) (record { locals = F.locals; labels = types_in m (y.Results ty) ∷ []; results = F.results }) body (record { params = []; results = types_in m (y.Results ty) })
+unfolding left_typed
+start_typed m F body ty =
+    let c : Context = record { locals = F.locals; labels = types_in m (y.Results ty) ∷ []; results = F.results } in
+    and_true _ ∙ and_true _ ∙ ap (λ d. is_block m (suc d) c body (record { params = []; results = types_in m (y.Results ty) })) (sub-zero most_nested)
+
+start_height : (m : Module) (F : Frame) (body : BlockId) (ty : ℕ) → max 0 (left_height m F (start_of body ty))
+    ≡ block_height m (suc most_nested) (record { locals = F.locals; labels = types_in m (y.Results ty) ∷ []; results = F.results }) body (record { params = []; results = types_in m (y.Results ty) })
+unfolding left_height
+start_height m F body ty =
+    let c : Context = record { locals = F.locals; labels = types_in m (y.Results ty) ∷ []; results = F.results } in
+    alone _ ∙ ap (λ d. block_height m (suc d) c body (record { params = []; results = types_in m (y.Results ty) })) (sub-zero most_nested)
+  where
+    alone : (x : ℕ) → max 0 (max (0 + max x 0) 0) ≡ x
+    alone x = omega arith
+
+pub body_untyped : (m : Module) (F : Frame) (body : BlockId) (ty : ℕ) (q : Place) (n : ℕ) → Reached m F (start_of body ty) q n → left_typed m F q ≡ false
+    → is_block m (suc most_nested) (record { locals = F.locals; labels = types_in m (y.Results ty) ∷ []; results = F.results }) body (record { params = []; results = types_in m (y.Results ty) }) ≡ false
+body_untyped m F body ty q n h e = sym (start_typed m F body ty) ∙ h.typed ∙ e
+
+pub body_ends : (m : Module) (F : Frame) (body : BlockId) (ty : ℕ) (q : Place) (n k : ℕ) → Reached m F (start_of body ty) q n → left_typed m F q ≡ true → k ≡ max n (left_height m F q)
+    → (is_block m (suc most_nested) (record { locals = F.locals; labels = types_in m (y.Results ty) ∷ []; results = F.results }) body (record { params = []; results = types_in m (y.Results ty) }) ≡ true)
+      × (k ≡ block_height m (suc most_nested) (record { locals = F.locals; labels = types_in m (y.Results ty) ∷ []; results = F.results }) body (record { params = []; results = types_in m (y.Results ty) }))
+body_ends m F body ty q n k h e f = (sym (start_typed m F body ty) ∙ h.typed ∙ e , f ∙ sym (h.height e) ∙ start_height m F body ty)

@@ -11,11 +11,12 @@ use Rattle.wasm_valid.specs.declared.opens.Open.{Open}
 use Rattle.wasm_valid.specs.declared.opens.Outer.{Outer}
 use Rattle.wasm_valid.specs.declared.opens.Opens.{Opens}
 use Rattle.wasm_valid.specs.declared.types.Types.{Types}
+use Rattle.wasm_valid.specs.declared.types.Types.TheVariants as y
 use Rattle.wasm_valid.specs.declared.pass.Step.{Step}
 use Rattle.wasm_valid.specs.declared.pass.Step.TheVariants.{Went, Untyped, Ended}
 use Rattle.wasm_valid.specs.Sorts.{nesting_of}
 use Rattle.wasm_valid.specs.Piles.{Pile}
-use Rattle.wasm_valid.specs.Operands.{Operands, put, ends_with}
+use Rattle.wasm_valid.specs.Operands.{Operands, exactly, put, ends_with}
 use Rattle.wasm_valid.specs.Signatures.{types_in}
 use Rattle.wasm_valid.specs.Typing.{Context, after_all, is_block, most_nested, other_is, height_all, block_height, other_height}
 
@@ -180,3 +181,25 @@ abbrev pub Closes : Module → Place → ℕ → Step → Place → ℕ → Type
 Closes m p n Went q k = ClosesTo m p q × (k ≡ n)
 Closes m p n Untyped q k = ⊥
 Closes m p n Ended q k = (p.outer ≡ []) × (k ≡ max n (length (types_in m p.top.results) + length p.under))
+
+abbrev pub step_of : Bool → Step
+step_of true = Went
+step_of false = Untyped
+
+-- where the pass over a body begins, and what its places see
+abbrev pub start_of : BlockId → ℕ → Place
+start_of body ty = record {
+  top = record { block = body; at = 0; label = y.Results ty; params = y.Empty; results = y.Results ty; second = None };
+  own = exactly [];
+  outer = [];
+  under = [];
+}
+
+abbrev pub frame_of : Module → List ValType → ℕ → Frame
+frame_of m locals ty = record { locals = locals; results = types_in m (y.Results ty) }
+
+-- a place that the pass over a body comes to, with the greatest number of operands so far
+pub record Reached (m : Module) (F : Frame) (p : Place) (q : Place) (n : ℕ) : Type 0 where
+  pub place : IsPlace q
+  pub typed : left_typed m F p ≡ left_typed m F q
+  pub height : left_typed m F q ≡ true → max 0 (left_height m F p) ≡ max n (left_height m F q)

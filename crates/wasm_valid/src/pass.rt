@@ -7,7 +7,7 @@ ghost use Rattle.wasm_valid.specs.Sorts.{nesting_of};
 ghost use Rattle.wasm_valid.specs.Operands.{exactly};
 ghost use Rattle.wasm_valid.specs.Piles.{Becomes};
 ghost use Rattle.wasm_valid.specs.Typing.{is_block, block_height, most_nested, tested};
-ghost use Rattle.wasm_valid.specs.Places.{Frame, IsPlace, Goes, Moves, Closes, BodyIs, NestsAt, opened_by, place_of, rest_of, next_open};
+ghost use Rattle.wasm_valid.specs.Places.{Frame, IsPlace, Goes, Moves, Closes, BodyIs, NestsAt, opened_by, place_of, rest_of, next_open, step_of};
 ghost use Rattle.wasm_valid.specs.Views.{IsSpaces};
 
 use crate::flat::pass_flat;
@@ -83,6 +83,13 @@ fn opened(nesting: Nesting, parts: Parts) -> Open
         results: parts.results,
         second: nesting.other,
     }
+}
+
+/// Whether the pass went on.
+fn went(fine: bool) -> Step
+    ensures { result ≡ step_of fine }
+{
+    if fine { Step::Went } else { Step::Untyped }
 }
 
 /// Where the pass stands.
@@ -257,14 +264,20 @@ impl Pass {
         let code = code_of(module, self.opens.top.block);
         let at = self.opens.top.at;
         if at >= code.len() {
-            return self.end_block(module);
+            let step = self.end_block(module)?;
+            return Ok(step);
         }
         let instr = &code[at];
-        let fine = match instr_nesting(instr) {
-            Some(nesting) => self.open_block(module, nesting)?,
-            None => self.go_flat(module, spaces, locals, results, instr)?,
-        };
-        Ok(if fine { Step::Went } else { Step::Untyped })
+        match instr_nesting(instr) {
+            Some(nesting) => {
+                let fine = self.open_block(module, nesting)?;
+                Ok(went(fine))
+            }
+            None => {
+                let fine = self.go_flat(module, spaces, locals, results, instr)?;
+                Ok(went(fine))
+            }
+        }
     }
 }
 
