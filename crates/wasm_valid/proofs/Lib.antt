@@ -3,3 +3,4 @@ pub mod PileLaws
 pub mod SpaceLaws
 pub mod LocalLaws
 pub mod PlaceLaws
+pub mod NumberLaws

@@ -3,8 +3,10 @@
 
 mod flat;
 mod locals;
+mod numbering;
 mod opens;
 mod pass;
+mod rules;
 mod operands;
 mod signature;
 mod sorts;
