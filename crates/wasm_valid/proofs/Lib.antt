@@ -4,3 +4,4 @@ pub mod SpaceLaws
 pub mod LocalLaws
 pub mod PlaceLaws
 pub mod NumberLaws
+pub mod NameLaws

@@ -7,3 +7,4 @@ pub mod Views
 pub mod Places
 pub mod Typing
 pub mod ModuleRules
+pub mod Valid
