@@ -5,3 +5,4 @@ pub mod LocalLaws
 pub mod PlaceLaws
 pub mod NumberLaws
 pub mod NameLaws
+pub mod ValidLaws

@@ -106,7 +106,8 @@ fn check_bodies(
     requires empty { heights.old.items ≡ [] }
     ensures { IfOk result (BodiesAre «module».now heights.new.items) }
 {
-    for (index, func) in module.funcs.as_slice().iter().enumerate() {
+    let funcs = module.funcs.as_slice();
+    for (index, func) in funcs.iter().enumerate() {
         match check_body(alloc, module, spaces, func)? {
             Some(height) => heights.push(height as u64)?,
             None => return Ok(Some(index as u32)),
