@@ -1,1 +1,8 @@
 mod Cases
+pub mod PileLaws
+pub mod SpaceLaws
+pub mod LocalLaws
+pub mod PlaceLaws
+pub mod NumberLaws
+pub mod NameLaws
+pub mod ValidLaws

@@ -1,5 +1,10 @@
 pub mod Spaces
 pub mod Sorts
 pub mod Operands
+pub mod Piles
+pub mod Signatures
+pub mod Views
+pub mod Places
 pub mod Typing
 pub mod ModuleRules
+pub mod Valid

@@ -1,6 +1,7 @@
 -- Which modules are typed (WebAssembly Core 2.0, section 3.4). Each rule that stands outside the bodies has a name of its own.
-use Rattle.std.specs.Prelude.{ℕ, zero, suc, ◌+◌, ◌^◌, Bool, true, false, not, ◌&&◌, ◌||◌, ◌==◌, nat_le, nat_lt, List, [], ◌∷◌, ◌++◌, Option, Some, None, slice_get, length, map, flat_map, is_some, is_none}
+use Rattle.std.specs.Prelude.{ℕ, zero, suc, ◌+◌, ◌^◌, Bool, true, false, not, ◌&&◌, ◌||◌, ◌==◌, nat_le, nat_lt, List, [], ◌∷◌, ◌++◌, Option, Some, None, slice_get, length, map, flat_map, is_some, unwrap_or, if◌then◌else◌}
 use Rattle.std.specs.List.{list_any, list_all}
+use Rattle.std.specs.Str.{bytes_eq}
 use Rattle.wasm_syntax.specs.Blocks.{block_of}
 use Rattle.wasm_syntax.specs.declared.types.ValType.{ValType}
 use Rattle.wasm_syntax.specs.declared.types.ValType.TheVariants as v
@@ -72,11 +73,7 @@ type_exists m x = nat_lt x (length m.types)
 
 -- 3.2.1: the least size is at most the greatest
 abbrev pub is_limit : Limit → Bool
-is_limit limit = is_ordered limit.min limit.max
-  where
-    is_ordered : ℕ → Option ℕ → Bool
-    is_ordered min None = true
-    is_ordered min (Some max) = nat_le min max
+is_limit limit = nat_le limit.min (unwrap_or limit.max limit.min)
 
 -- 3.2.4: a table holds references
 abbrev pub is_table : TableType → Bool
@@ -84,11 +81,7 @@ is_table table = is_reference table.elem && is_limit table.limit
 
 -- 3.2.5: a memory has at most 65,536 pages
 abbrev pub is_memory : Limit → Bool
-is_memory limit = is_limit limit && nat_le limit.min 65536 && within limit.max
-  where
-    within : Option ℕ → Bool
-    within None = true
-    within (Some max) = nat_le max 65536
+is_memory limit = is_limit limit && nat_le limit.min 65536 && nat_le (unwrap_or limit.max 0) 65536
 
 -- 3.4.9
 abbrev pub is_import : Module → ImportDesc → Bool
@@ -139,16 +132,10 @@ is_export m (e.Table x) = nat_lt x (length (tables_of m))
 is_export m (e.Mem x) = nat_lt x (length (mems_of m))
 is_export m (e.Global x) = nat_lt x (length (globals_of m))
 
-abbrev pub same_name : List ℕ → List ℕ → Bool
-same_name [] [] = true
-same_name [] (y ∷ ys) = false
-same_name (x ∷ xs) [] = false
-same_name (x ∷ xs) (y ∷ ys) = (x == y) && same_name xs ys
-
 -- 3.4.10: no two of these exports have one name
 abbrev pub names_differ : List Export → Bool
 names_differ [] = true
-names_differ (export ∷ exports) = not (list_any (λ (other : Export). same_name export.name other.name) exports) && names_differ exports
+names_differ (export ∷ exports) = not (list_any (λ (other : Export). bytes_eq export.name other.name) exports) && names_differ exports
 
 abbrev pub is_start_type : Option FuncType → Bool
 is_start_type None = false
@@ -207,11 +194,7 @@ is_typed_module m = is_framed m && list_all (is_typed_body m) m.funcs
 -- the first of these functions whose body isn't typed, where they are counted from k on
 abbrev pub first_untyped : Module → ℕ → List Func → Option ℕ
 first_untyped m k [] = None
-first_untyped m k (f ∷ fs) = first_or (is_typed_body m f) k (first_untyped m (suc k) fs)
-  where
-    first_or : Bool → ℕ → Option ℕ → Option ℕ
-    first_or true k o = o
-    first_or false k o = Some k
+first_untyped m k (f ∷ fs) = if is_typed_body m f then first_untyped m (suc k) fs else Some k
 
 -- the function that a module is refused for, counted among the module's own: none where a rule outside the bodies fails
 unfoldable pub refused_function : Module → Option ℕ

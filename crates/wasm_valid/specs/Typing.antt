@@ -34,42 +34,42 @@ pub record Signature : Type 0 where
 abbrev pub goes : List ValType → List ValType → Option Signature
 goes ts us = Some (record { takes = ts; gives = us })
 
--- 3.3.1 to 3.3.7: the type of an instruction that has one. Alignment is at most the width
-abbrev pub signature : Module → Context → Sort → Option Signature
-signature m c s.Nop = goes [] []
-signature m c (s.Const t) = goes [] (t ∷ [])
-signature m c (s.Unary t) = goes (t ∷ []) (t ∷ [])
-signature m c (s.Binary t) = goes (t ∷ t ∷ []) (t ∷ [])
-signature m c (s.Test t) = goes (t ∷ []) (v.I32 ∷ [])
-signature m c (s.Compare t) = goes (t ∷ t ∷ []) (v.I32 ∷ [])
-signature m c (s.Convert from to) = goes (from ∷ []) (to ∷ [])
-signature m c (s.Load t width align) = when (has_memory m && nat_le align width) (goes (v.I32 ∷ []) (t ∷ []))
-signature m c (s.Store t width align) = when (has_memory m && nat_le align width) (goes (t ∷ v.I32 ∷ []) [])
-signature m c s.MemorySize = when (has_memory m) (goes [] (v.I32 ∷ []))
-signature m c s.MemoryGrow = when (has_memory m) (goes (v.I32 ∷ []) (v.I32 ∷ []))
-signature m c (s.MemoryInit x) = when (has_memory m && nat_lt x (length m.datas)) (goes (v.I32 ∷ v.I32 ∷ v.I32 ∷ []) [])
-signature m c (s.DataDrop x) = when (nat_lt x (length m.datas)) (goes [] [])
-signature m c s.MemoryCopy = when (has_memory m) (goes (v.I32 ∷ v.I32 ∷ v.I32 ∷ []) [])
-signature m c s.MemoryFill = when (has_memory m) (goes (v.I32 ∷ v.I32 ∷ v.I32 ∷ []) [])
-signature m c (s.LocalGet x) = then_ (slice_get c.locals x) (λ t. goes [] (t ∷ []))
-signature m c (s.LocalSet x) = then_ (slice_get c.locals x) (λ t. goes (t ∷ []) [])
-signature m c (s.LocalTee x) = then_ (slice_get c.locals x) (λ t. goes (t ∷ []) (t ∷ []))
-signature m c (s.GlobalGet x) = then_ (slice_get (globals_of m) x) (λ (g : GlobalType). goes [] (g.val ∷ []))
-signature m c (s.GlobalSet x) = then_ (slice_get (globals_of m) x) (λ (g : GlobalType). when g.mutable (goes (g.val ∷ []) []))
-signature m c (s.TableGet x) = then_ (slice_get (tables_of m) x) (λ (table : TableType). goes (v.I32 ∷ []) (table.elem ∷ []))
-signature m c (s.TableSet x) = then_ (slice_get (tables_of m) x) (λ (table : TableType). goes (table.elem ∷ v.I32 ∷ []) [])
-signature m c (s.TableInit x y) =
+-- 3.3.1 to 3.3.7: the type of an instruction that has one, under these locals. Alignment is at most the width
+abbrev pub signature : Module → List ValType → Sort → Option Signature
+signature m locals s.Nop = goes [] []
+signature m locals (s.Const t) = goes [] (t ∷ [])
+signature m locals (s.Unary t) = goes (t ∷ []) (t ∷ [])
+signature m locals (s.Binary t) = goes (t ∷ t ∷ []) (t ∷ [])
+signature m locals (s.Test t) = goes (t ∷ []) (v.I32 ∷ [])
+signature m locals (s.Compare t) = goes (t ∷ t ∷ []) (v.I32 ∷ [])
+signature m locals (s.Convert from to) = goes (from ∷ []) (to ∷ [])
+signature m locals (s.Load t width align) = when (has_memory m && nat_le align width) (goes (v.I32 ∷ []) (t ∷ []))
+signature m locals (s.Store t width align) = when (has_memory m && nat_le align width) (goes (t ∷ v.I32 ∷ []) [])
+signature m locals s.MemorySize = when (has_memory m) (goes [] (v.I32 ∷ []))
+signature m locals s.MemoryGrow = when (has_memory m) (goes (v.I32 ∷ []) (v.I32 ∷ []))
+signature m locals (s.MemoryInit x) = when (has_memory m && nat_lt x (length m.datas)) (goes (v.I32 ∷ v.I32 ∷ v.I32 ∷ []) [])
+signature m locals (s.DataDrop x) = when (nat_lt x (length m.datas)) (goes [] [])
+signature m locals s.MemoryCopy = when (has_memory m) (goes (v.I32 ∷ v.I32 ∷ v.I32 ∷ []) [])
+signature m locals s.MemoryFill = when (has_memory m) (goes (v.I32 ∷ v.I32 ∷ v.I32 ∷ []) [])
+signature m locals (s.LocalGet x) = then_ (slice_get locals x) (λ t. goes [] (t ∷ []))
+signature m locals (s.LocalSet x) = then_ (slice_get locals x) (λ t. goes (t ∷ []) [])
+signature m locals (s.LocalTee x) = then_ (slice_get locals x) (λ t. goes (t ∷ []) (t ∷ []))
+signature m locals (s.GlobalGet x) = then_ (slice_get (globals_of m) x) (λ (g : GlobalType). goes [] (g.val ∷ []))
+signature m locals (s.GlobalSet x) = then_ (slice_get (globals_of m) x) (λ (g : GlobalType). when g.mutable (goes (g.val ∷ []) []))
+signature m locals (s.TableGet x) = then_ (slice_get (tables_of m) x) (λ (table : TableType). goes (v.I32 ∷ []) (table.elem ∷ []))
+signature m locals (s.TableSet x) = then_ (slice_get (tables_of m) x) (λ (table : TableType). goes (table.elem ∷ v.I32 ∷ []) [])
+signature m locals (s.TableInit x y) =
     then_ (slice_get m.elems x) (λ (segment : Elem). then_ (slice_get (tables_of m) y) (λ (table : TableType).
     when (same_type segment.ty table.elem) (goes (v.I32 ∷ v.I32 ∷ v.I32 ∷ []) [])))
-signature m c (s.ElemDrop x) = when (nat_lt x (length m.elems)) (goes [] [])
-signature m c (s.TableCopy to from) =
+signature m locals (s.ElemDrop x) = when (nat_lt x (length m.elems)) (goes [] [])
+signature m locals (s.TableCopy to from) =
     then_ (slice_get (tables_of m) to) (λ (target : TableType). then_ (slice_get (tables_of m) from) (λ (source : TableType).
     when (same_type target.elem source.elem) (goes (v.I32 ∷ v.I32 ∷ v.I32 ∷ []) [])))
-signature m c (s.TableGrow x) = then_ (slice_get (tables_of m) x) (λ (table : TableType). goes (v.I32 ∷ table.elem ∷ []) (v.I32 ∷ []))
-signature m c (s.TableSize x) = then_ (slice_get (tables_of m) x) (λ (table : TableType). goes [] (v.I32 ∷ []))
-signature m c (s.TableFill x) = then_ (slice_get (tables_of m) x) (λ (table : TableType). goes (v.I32 ∷ table.elem ∷ v.I32 ∷ []) [])
-signature m c (s.RefNull t) = when (is_reference t) (goes [] (t ∷ []))
-signature m c (s.RefFunc x) = when (is_some (func_type m x) && is_declared m x) (goes [] (v.FuncRef ∷ []))
+signature m locals (s.TableGrow x) = then_ (slice_get (tables_of m) x) (λ (table : TableType). goes (v.I32 ∷ table.elem ∷ []) (v.I32 ∷ []))
+signature m locals (s.TableSize x) = then_ (slice_get (tables_of m) x) (λ (table : TableType). goes [] (v.I32 ∷ []))
+signature m locals (s.TableFill x) = then_ (slice_get (tables_of m) x) (λ (table : TableType). goes (v.I32 ∷ table.elem ∷ v.I32 ∷ []) [])
+signature m locals (s.RefNull t) = when (is_reference t) (goes [] (t ∷ []))
+signature m locals (s.RefFunc x) = when (is_some (func_type m x) && is_declared m x) (goes [] (v.FuncRef ∷ []))
 
 -- whether a block goes, under a context, from operands of the parameters' types to operands of the results' types and no more
 abbrev pub Blocks : Type 0
@@ -83,14 +83,14 @@ abbrev pub calls : FuncType → Operands → Option Operands
 calls g s = exchange (reverse g.params) (reverse g.results) s
 
 -- each of these labels has as many types as are asked for, and they fit the topmost operands
-abbrev pub all_fit : Context → ℕ → List ℕ → Operands → Bool
-all_fit c n [] s = true
-all_fit c n (l ∷ ls) s =
-    is_some (then_ (slice_get c.labels l) (λ ts. when (length ts == n) (take_all (reverse ts) s))) && all_fit c n ls s
+abbrev pub all_fit : List (List ValType) → ℕ → List ℕ → Operands → Bool
+all_fit labels n [] s = true
+all_fit labels n (l ∷ ls) s =
+    is_some (then_ (slice_get labels l) (λ ts. when (length ts == n) (take_all (reverse ts) s))) && all_fit labels n ls s
 
 -- 3.3.8: a choice between labels
-abbrev pub after_table : Context → List ℕ → List ValType → Operands → Option Operands
-after_table c ls ts s = when (all_fit c (length ts) ls s) (leaves (reverse ts) s)
+abbrev pub after_table : List (List ValType) → List ℕ → List ValType → Operands → Option Operands
+after_table labels ls ts s = when (all_fit labels (length ts) ls s) (leaves (reverse ts) s)
 
 -- 3.3.4: a select with its types has one
 abbrev pub after_select : List ValType → Operands → Option Operands
@@ -112,7 +112,7 @@ abbrev pub after_other : Module → Context → Instr → Operands → Option Op
 after_other m c i.Unreachable s = Some anything
 after_other m c (i.Br l) s = then_ (slice_get c.labels l) (λ ts. leaves (reverse ts) s)
 after_other m c (i.BrIf l) s = then_ (slice_get c.labels l) (λ ts. then_ (take_one v.I32 s) (exchange (reverse ts) (reverse ts)))
-after_other m c (i.BrTable ls l) s = then_ (slice_get c.labels l) (λ ts. then_ (take_one v.I32 s) (after_table c ls ts))
+after_other m c (i.BrTable ls l) s = then_ (slice_get c.labels l) (λ ts. then_ (take_one v.I32 s) (after_table c.labels ls ts))
 after_other m c i.Return s = leaves (reverse c.results) s
 after_other m c (i.Call x) s = then_ (func_type m x) (λ g. calls g s)
 after_other m c (i.CallIndirect x y) s =
@@ -126,7 +126,7 @@ after_other m c i.RefIsNull s = then_ (take_any s) (λ taken. when (fits_referen
 after_other m c _ s = None
 
 abbrev pub after_sort : Module → Context → Sort → Operands → Option Operands
-after_sort m c sort s = then_ (signature m c sort) (λ g. exchange g.takes g.gives s)
+after_sort m c sort s = then_ (signature m c.locals sort) (λ g. exchange g.takes g.gives s)
 
 abbrev pub by_sort : Option Sort → Module → Context → Instr → Operands → Option Operands
 by_sort (Some sort) m c i s = after_sort m c sort s

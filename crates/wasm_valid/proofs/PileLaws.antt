@@ -1,0 +1,115 @@
+-- Laws of lists whose topmost element is the last one.
+use Rattle.std.proofs.Common.{◌≡◌, ℕ, zero, suc, ◌+◌, ◌-◌, ◌<◌, ◌≤◌, Bool, true, false, List, [], ◌∷◌, ◌++◌, Option, Some, None, length, reverse, map, take, drop, get_or, refl, sym, ◌∙◌, ap, subst, is_some, arith, min, append_assoc, nat_eq, eq-eqb}
+use Rattle.std.proofs.lemmas.Bool.{ne_eqb}
+use Rattle.std.proofs.lemmas.List.{take_more, reverse-append, length-reverse, length-append, length-take, length-take-le, length-drop, drop-append-le, take-append-drop, take_at, drop_at, take_all as take_whole, drop_all, append-nil, nil_from_length, map-append}
+use Rattle.wasm_syntax.specs.declared.types.ValType.{ValType}
+use Rattle.wasm_valid.specs.Spaces.{when, then_}
+use Rattle.wasm_valid.specs.Operands.{Operands, take_any, take_one, take_all, put, fits, anything, is_empty}
+use Rattle.wasm_valid.specs.Piles.{Pile, pile_of, Becomes}
+
+-- one more element on top
+pub reverse_more : {X : Type 0} (xs : List X) (n : ℕ) (d : X) → 0 < n → n ≤ length xs → reverse (take n xs) ≡ get_or xs (n - 1) d ∷ reverse (take (n - 1) xs)
+reverse_more xs n d p q =
+    let same : n ≡ (n - 1) + 1 = omega arith in
+    let more : take ((n - 1) + 1) xs ≡ take (n - 1) xs ++ get_or xs (n - 1) d ∷ [] = take_more xs (n - 1) d (omega arith) in
+    ap (λ k. reverse (take k xs)) same ∙ ap reverse more ∙ reverse-append (take (n - 1) xs) (get_or xs (n - 1) d ∷ [])
+
+-- the same above a place
+pub reverse_above : {X : Type 0} (xs : List X) (base n : ℕ) (d : X) → base < n → n ≤ length xs
+    → reverse (drop base (take n xs)) ≡ get_or xs (n - 1) d ∷ reverse (drop base (take (n - 1) xs))
+reverse_above xs base n d p q =
+    let same : n ≡ (n - 1) + 1 = omega arith in
+    let more : take ((n - 1) + 1) xs ≡ take (n - 1) xs ++ get_or xs (n - 1) d ∷ [] = take_more xs (n - 1) d (omega arith) in
+    let len : length (take (n - 1) xs) ≡ n - 1 = length-take-le (n - 1) xs (omega arith) in
+    ap (λ k. reverse (drop base (take k xs))) same ∙ ap (λ ys. reverse (drop base ys)) more
+    ∙ ap reverse (drop-append-le base (take (n - 1) xs) (get_or xs (n - 1) d ∷ []) (omega arith))
+    ∙ reverse-append (drop base (take (n - 1) xs)) (get_or xs (n - 1) d ∷ [])
+
+-- the upper part of a list that is turned round, and the lower one
+pub reverse_parts : {X : Type 0} (xs : List X) (b : ℕ) → b ≤ length xs
+    → (reverse (drop b xs) ≡ take (length (reverse xs) - b) (reverse xs)) × (reverse (take b xs) ≡ drop (length (reverse xs) - b) (reverse xs))
+reverse_parts xs b h =
+    let split : reverse xs ≡ reverse (drop b xs) ++ reverse (take b xs) = ap reverse (sym (take-append-drop b xs)) ∙ reverse-append (take b xs) (drop b xs) in
+    let len : length (reverse (drop b xs)) ≡ length (reverse xs) - b = length-reverse (drop b xs) ∙ length-drop b xs ∙ ap (λ n. n - b) (sym (length-reverse xs)) in
+    ( sym (ap (take (length (reverse xs) - b)) split ∙ take_at (reverse (drop b xs)) (reverse (take b xs)) (length (reverse xs) - b) len)
+    , sym (ap (drop (length (reverse xs) - b)) split ∙ drop_at (reverse (drop b xs)) (reverse (take b xs)) (length (reverse xs) - b) len) )
+
+-- no element above a place
+pub nothing_above : {X : Type 0} (xs : List X) (base : ℕ) → base ≤ length xs → reverse (drop base xs) ≡ [] → take base xs ≡ xs
+nothing_above xs base h e =
+    take_whole base xs (let n : length (reverse (drop base xs)) ≡ 0 = ap length e in omega (arith, length-reverse (drop base xs), length-drop base xs, n))
+
+-- what is left of the operands as a block ends
+pub closes : (list : List (Option ValType)) (base : ℕ) (any : Bool) (p : Pile) (b : ℕ)
+    → pile_of list base any ≡ p → base ≤ length list → p.own.types ≡ [] → b ≤ length p.under
+    → (reverse (drop b list) ≡ take (length p.under - b) p.under) × (reverse (take b list) ≡ drop (length p.under - b) p.under)
+closes list base any p b view stands spent le =
+    let P : Pile → Type 0 = λ p. p.own.types ≡ [] → b ≤ length p.under → (reverse (drop b list) ≡ take (length p.under - b) p.under) × (reverse (take b list) ≡ drop (length p.under - b) p.under) in
+    subst P view (λ spent le.
+        let whole : take base list ≡ list = nothing_above list base stands spent in
+        let Q : List (Option ValType) → Type 0 = λ u. b ≤ length (reverse u) → (reverse (drop b list) ≡ take (length (reverse u) - b) (reverse u)) × (reverse (take b list) ≡ drop (length (reverse u) - b) (reverse u)) in
+        subst Q (sym whole) (λ le. reverse_parts list b (let n : length (reverse list) ≡ length list = length-reverse list in omega arith)) le) spent le
+
+-- the operands of a block that opens
+pub opens : (list : List (Option ValType)) (base : ℕ) → base ≤ length list → reverse (take (length list) list) ≡ reverse (drop base list) ++ reverse (take base list)
+opens list base h =
+    ap reverse (take_whole (length list) list (omega arith)) ∙ ap reverse (sym (take-append-drop base list)) ∙ reverse-append (take base list) (drop base list)
+
+-- the operands of a block that opens stay below it
+pub opened : (list : List (Option ValType)) (base : ℕ) (any : Bool) (p : Pile) (n : ℕ) (u : List (Option ValType))
+    → pile_of list base any ≡ p → base ≤ length list → n ≡ length list → u ≡ reverse (take n list) → u ≡ p.own.types ++ p.under
+opened list base any p n u view stands len e =
+    let P : Pile → Type 0 = λ p. u ≡ p.own.types ++ p.under in
+    subst P view (e ∙ ap (λ k. reverse (take k list)) len ∙ opens list base stands)
+
+-- whether a block has operands left
+pub spent_is : (list : List (Option ValType)) (base : ℕ) (any : Bool) (p : Pile) (n : ℕ)
+    → pile_of list base any ≡ p → base ≤ length list → n ≡ length list → nat_eq n base ≡ is_empty p.own.types
+spent_is list base any p n view stands len =
+    let P : Pile → Type 0 = λ p. nat_eq n base ≡ is_empty p.own.types in
+    subst P view (by_length (reverse (drop base list)) (length-reverse (drop base list) ∙ length-drop base list))
+  where
+    by_length : (xs : List (Option ValType)) → length xs ≡ length list - base → nat_eq n base ≡ is_empty xs
+    by_length [] e = eq-eqb n base (omega arith)
+    by_length (x ∷ xs) e = ne_eqb n base (λ same. omega (arith, e))
+
+-- anything may be taken where anything may stand
+pub take_all-anything : (ts : List ValType) → take_all ts anything ≡ Some anything
+take_all-anything [] = refl
+take_all-anything (t ∷ ts) = take_all-anything ts
+
+-- types that are left where no operands are
+pub no_more : (types : List ValType) (left : ℕ) (d : ValType) (list : List (Option ValType)) (base at : ℕ) (any : Bool)
+    → 0 < left → left ≤ length types → at ≤ base
+    → is_some (take_all (reverse (take left types)) (record { types = reverse (drop base (take at list)); any = any })) ≡ any
+no_more types left d list base at any p q h =
+    let none_left : drop base (take at list) ≡ [] = drop_all base (take at list) (omega (arith, length-take at list)) in
+    let P : List ValType → Type 0 = λ ts. is_some (take_all ts (record { types = reverse (drop base (take at list)); any = any })) ≡ any in
+    subst P (sym (reverse_more types left d p q))
+        (let Q : List (Option ValType) → Type 0 = λ us. is_some (take_all (get_or types (left - 1) d ∷ reverse (take (left - 1) types)) (record { types = reverse us; any = any })) ≡ any in
+        subst Q (sym none_left) (by_mark any))
+  where
+    by_mark : (any : Bool) → is_some (take_all (get_or types (left - 1) d ∷ reverse (take (left - 1) types)) (record { types = []; any = any })) ≡ any
+    by_mark true = ap is_some (take_all-anything (reverse (take (left - 1) types)))
+    by_mark false = refl
+
+-- one type less and one operand less
+pub one_less : (types : List ValType) (left : ℕ) (d : ValType) (list : List (Option ValType)) (base at : ℕ) (any : Bool) (x : Option ValType)
+    → 0 < left → left ≤ length types → base < at → at ≤ length list → x ≡ get_or list (at - 1) x → fits (get_or types (left - 1) d) x ≡ true
+    → is_some (take_all (reverse (take left types)) (record { types = reverse (drop base (take at list)); any = any }))
+        ≡ is_some (take_all (reverse (take (left - 1) types)) (record { types = reverse (drop base (take (at - 1) list)); any = any }))
+one_less types left d list base at any x p q h k e f =
+    ap (λ ts. is_some (take_all ts (record { types = reverse (drop base (take at list)); any = any }))) (reverse_more types left d p q)
+    ∙ ap (λ us. is_some (take_all (get_or types (left - 1) d ∷ reverse (take (left - 1) types)) (record { types = us; any = any }))) (reverse_above list base at x h k)
+    ∙ ap (λ y. is_some (take_all (get_or types (left - 1) d ∷ reverse (take (left - 1) types)) (record { types = y ∷ reverse (drop base (take (at - 1) list)); any = any }))) (sym e)
+    ∙ ap (λ b. is_some (then_ (when b (Some (record { types = reverse (drop base (take (at - 1) list)); any = any }))) (take_all (reverse (take (left - 1) types))))) f
+
+-- one type that doesn't fit
+pub one_wrong : (types : List ValType) (left : ℕ) (d : ValType) (list : List (Option ValType)) (base at : ℕ) (any : Bool) (x : Option ValType)
+    → 0 < left → left ≤ length types → base < at → at ≤ length list → x ≡ get_or list (at - 1) x → fits (get_or types (left - 1) d) x ≡ false
+    → is_some (take_all (reverse (take left types)) (record { types = reverse (drop base (take at list)); any = any })) ≡ false
+one_wrong types left d list base at any x p q h k e f =
+    ap (λ ts. is_some (take_all ts (record { types = reverse (drop base (take at list)); any = any }))) (reverse_more types left d p q)
+    ∙ ap (λ us. is_some (take_all (get_or types (left - 1) d ∷ reverse (take (left - 1) types)) (record { types = us; any = any }))) (reverse_above list base at x h k)
+    ∙ ap (λ y. is_some (take_all (get_or types (left - 1) d ∷ reverse (take (left - 1) types)) (record { types = y ∷ reverse (drop base (take (at - 1) list)); any = any }))) (sym e)
+    ∙ ap (λ b. is_some (then_ (when b (Some (record { types = reverse (drop base (take (at - 1) list)); any = any }))) (take_all (reverse (take (left - 1) types))))) f

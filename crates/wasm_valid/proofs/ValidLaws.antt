@@ -1,0 +1,110 @@
+-- Laws of validation.
+use Rattle.std.proofs.Common.{◌≡◌, ℕ, suc, ◌+◌, ◌<◌, ◌≤◌, ◌^◌, Bool, true, false, ◌&&◌, List, [], ◌∷◌, ◌++◌, Option, Some, None, length, take, drop, map, get_or, refl, sym, ◌∙◌, ap, subst, arith, nat_le, if◌then◌else◌}
+use Rattle.std.specs.Prelude.{slice_get, is_some, IfSome, replicate, flat_map}
+use Rattle.std.specs.List.{list_all}
+use Rattle.std.proofs.lemmas.List.{drop_more, drop_all, map_more, take_all as take_whole}
+use Rattle.wasm_syntax.specs.declared.types.ValType.{ValType}
+use Rattle.wasm_syntax.specs.declared.types.FuncType.{FuncType}
+use Rattle.wasm_syntax.specs.declared.module.Func.{Func}
+use Rattle.wasm_syntax.specs.declared.module.Module.{Module}
+use Rattle.wasm_valid.specs.declared.types.Types.TheVariants as y
+use Rattle.wasm_valid.specs.Spaces.{when}
+use Rattle.wasm_valid.specs.Signatures.{types_in, results_in}
+use Rattle.wasm_valid.specs.Typing.{Context, is_block, block_height, most_nested, most_locals, locals_of, few_locals, typed_within, typed_as, height_as, body_context, body_type, count_locals, is_typed_body, body_height}
+use Rattle.wasm_valid.specs.ModuleRules.{is_numbered, obeys_rules, is_vector, is_framed, is_typed_module, first_untyped, refused_function}
+use Rattle.wasm_valid.specs.Places.{BodyIs}
+use Rattle.wasm_valid.specs.Valid.{BodiesAre}
+
+abbrev of_results : List ValType → List ValType → Context
+of_results locals rs = record { locals = locals; labels = rs ∷ []; results = rs }
+
+abbrev from_none : List ValType → FuncType
+from_none rs = record { params = []; results = rs }
+
+-- the pass over a body speaks of the function's type
+pub body_is : (m : Module) (f : Func) (g : FuncType) (locals : List ValType) (height : Option ℕ) → slice_get m.types f.ty ≡ Some g → locals ≡ locals_of g f → few_locals g f ≡ true
+    → BodyIs (is_block m (suc most_nested) (of_results locals (types_in m (y.Results f.ty))) f.body (from_none (types_in m (y.Results f.ty))))
+        (block_height m (suc most_nested) (of_results locals (types_in m (y.Results f.ty))) f.body (from_none (types_in m (y.Results f.ty)))) height
+    → BodyIs (is_typed_body m f) (body_height m f) height
+body_is m f g locals height e l few =
+    let Q : Option FuncType → Type 0 = λ o.
+          BodyIs (is_block m (suc most_nested) (of_results locals (results_in o)) f.body (from_none (results_in o))) (block_height m (suc most_nested) (of_results locals (results_in o)) f.body (from_none (results_in o))) height
+          → BodyIs (typed_as o m f) (height_as o m f) height in
+    subst Q (sym e) (λ h.
+        let P : Bool → Type 0 = λ b. BodyIs (typed_within b m g f) (block_height m (suc most_nested) (body_context g f) f.body (body_type g)) height in
+        let L : List ValType → Type 0 = λ ls. BodyIs (is_block m (suc most_nested) (of_results ls g.results) f.body (from_none g.results)) (block_height m (suc most_nested) (of_results ls g.results) f.body (from_none g.results)) height in
+        subst P (sym few) (subst L l h))
+
+-- a function whose body isn't typed, after others whose bodies are
+pub first_found : (m : Module) (fs : List Func) (i : ℕ) (f : Func) → i < length fs → f ≡ get_or fs i f → is_typed_body m f ≡ false
+    → first_untyped m 0 fs ≡ first_untyped m i (drop i fs) → list_all (is_typed_body m) fs ≡ list_all (is_typed_body m) (drop i fs)
+    → (first_untyped m 0 fs ≡ Some i) × (list_all (is_typed_body m) fs ≡ false)
+first_found m fs i f h e untyped first all =
+    let more : drop i fs ≡ f ∷ drop (i + 1) fs = drop_more fs i f h ∙ ap (λ (x : Func). x ∷ drop (i + 1) fs) (sym e) in
+    ( first ∙ ap (first_untyped m i) more ∙ ap (λ b. if b then first_untyped m (suc i) (drop (i + 1) fs) else Some i) untyped
+    , all ∙ ap (list_all (is_typed_body m)) more ∙ ap (λ b. b && list_all (is_typed_body m) (drop (i + 1) fs)) untyped )
+
+pub first_on : (m : Module) (fs : List Func) (i : ℕ) (f : Func) → i < length fs → f ≡ get_or fs i f → is_typed_body m f ≡ true
+    → first_untyped m 0 fs ≡ first_untyped m i (drop i fs) → first_untyped m 0 fs ≡ first_untyped m (i + 1) (drop (i + 1) fs)
+first_on m fs i f h e typed first =
+    let more : drop i fs ≡ f ∷ drop (i + 1) fs = drop_more fs i f h ∙ ap (λ (x : Func). x ∷ drop (i + 1) fs) (sym e) in
+    let next : suc i ≡ i + 1 = omega arith in
+    first ∙ ap (first_untyped m i) more ∙ ap (λ b. if b then first_untyped m (suc i) (drop (i + 1) fs) else Some i) typed ∙ ap (λ k. first_untyped m k (drop (i + 1) fs)) next
+
+pub all_on : (m : Module) (fs : List Func) (i : ℕ) (f : Func) → i < length fs → f ≡ get_or fs i f → is_typed_body m f ≡ true
+    → list_all (is_typed_body m) fs ≡ list_all (is_typed_body m) (drop i fs) → list_all (is_typed_body m) fs ≡ list_all (is_typed_body m) (drop (i + 1) fs)
+all_on m fs i f h e typed all =
+    let more : drop i fs ≡ f ∷ drop (i + 1) fs = drop_more fs i f h ∙ ap (λ (x : Func). x ∷ drop (i + 1) fs) (sym e) in
+    all ∙ ap (list_all (is_typed_body m)) more ∙ ap (λ b. b && list_all (is_typed_body m) (drop (i + 1) fs)) typed
+
+pub heights_on : (m : Module) (fs : List Func) (i : ℕ) (f : Func) (old new : List ℕ) (h : ℕ) → i < length fs → f ≡ get_or fs i f → h ≡ body_height m f
+    → old ≡ map (body_height m) (take i fs) → new ≡ old ++ h ∷ [] → new ≡ map (body_height m) (take (i + 1) fs)
+heights_on m fs i f old new h lt e k o n =
+    n ∙ ap (λ (xs : List ℕ). xs ++ h ∷ []) o ∙ ap (λ (x : ℕ). map (body_height m) (take i fs) ++ x ∷ []) (k ∙ ap (body_height m) e) ∙ sym (map_more (body_height m) fs i f lt)
+
+pub all_bodies : (m : Module) (fs : List Func) (i : ℕ) (heights : List ℕ) → length fs ≤ i
+    → list_all (is_typed_body m) fs ≡ list_all (is_typed_body m) (drop i fs) → heights ≡ map (body_height m) (take i fs)
+    → (list_all (is_typed_body m) fs ≡ true) × (heights ≡ map (body_height m) fs)
+all_bodies m fs i heights h all hs =
+    (all ∙ ap (list_all (is_typed_body m)) (drop_all i fs h) , hs ∙ ap (map (body_height m)) (take_whole i fs h))
+
+-- Modules.
+
+pub unnumbered : (m : Module) → is_numbered m ≡ false → (is_typed_module m ≡ false) × (None ≡ refused_function m)
+unfolding is_typed_module is_framed refused_function
+unnumbered m e =
+    ( ap (λ b. (b && obeys_rules m) && list_all (is_typed_body m) m.funcs) e
+    , sym (ap (λ b. when (b && obeys_rules m) (first_untyped m 0 m.funcs)) e) )
+
+pub unruly : (m : Module) → is_numbered m ≡ true → obeys_rules m ≡ false → (is_typed_module m ≡ false) × (None ≡ refused_function m)
+unfolding is_typed_module is_framed refused_function
+unruly m e f =
+    ( ap (λ b. (b && obeys_rules m) && list_all (is_typed_body m) m.funcs) e ∙ ap (λ b. (true && b) && list_all (is_typed_body m) m.funcs) f
+    , sym (ap (λ b. when (b && obeys_rules m) (first_untyped m 0 m.funcs)) e ∙ ap (λ b. when (true && b) (first_untyped m 0 m.funcs)) f) )
+
+pub untyped : (m : Module) (k : ℕ) → is_numbered m ≡ true → obeys_rules m ≡ true → first_untyped m 0 m.funcs ≡ Some k → list_all (is_typed_body m) m.funcs ≡ false
+    → (is_typed_module m ≡ false) × (Some k ≡ refused_function m)
+unfolding is_typed_module is_framed refused_function
+untyped m k e f g h =
+    ( ap (λ b. (b && obeys_rules m) && list_all (is_typed_body m) m.funcs) e ∙ ap (λ b. (true && b) && list_all (is_typed_body m) m.funcs) f ∙ h
+    , sym (ap (λ b. when (b && obeys_rules m) (first_untyped m 0 m.funcs)) e ∙ ap (λ b. when (true && b) (first_untyped m 0 m.funcs)) f ∙ g) )
+
+pub typed : (m : Module) → is_numbered m ≡ true → obeys_rules m ≡ true → list_all (is_typed_body m) m.funcs ≡ true → is_typed_module m ≡ true
+unfolding is_typed_module is_framed
+typed m e f h = ap (λ b. (b && obeys_rules m) && list_all (is_typed_body m) m.funcs) e ∙ ap (λ b. (true && b) && list_all (is_typed_body m) m.funcs) f ∙ h
+
+-- Locals.
+
+abbrev pub expand : List ValType → List (ℕ × ValType) → List ValType
+expand params runs = params ++ flat_map (λ (run : ℕ × ValType). replicate run.0 run.1) runs
+
+pub locals_are : (g : FuncType) (f : Func) (params : List ValType) (runs : List (ℕ × ValType)) (o : Option (List ValType)) (ls : List ValType)
+    → params ≡ g.params → runs ≡ f.locals → o ≡ Some ls → IfSome o (λ types. types ≡ expand params runs) → ls ≡ locals_of g f
+locals_are g f params runs o ls e r s h =
+    let P : Option (List ValType) → Type 0 = λ x. IfSome x (λ types. types ≡ expand params runs) in
+    subst P s h ∙ ap (λ xs. expand xs runs) e ∙ ap (expand g.params) r
+
+pub few_are : (g : FuncType) (f : Func) (params : List ValType) (runs : List (ℕ × ValType)) (o : Option (List ValType)) (ls : List ValType)
+    → params ≡ g.params → runs ≡ f.locals → o ≡ Some ls → is_some o ≡ nat_le (length params + count_locals runs) most_locals → few_locals g f ≡ true
+few_are g f params runs o ls e r s h =
+    sym (ap is_some (sym s) ∙ h ∙ ap (λ (xs : List ValType). nat_le (length xs + count_locals runs) most_locals) e ∙ ap (λ rs. nat_le (length g.params + count_locals rs) most_locals) r)

@@ -1,0 +1,10 @@
+use Rattle.std.proofs.Common.{◌≡◌, reverse, drop}
+use Rattle.wasm_valid.specs.Typing.{all_fit}
+use Rattle.wasm_valid.specs.Places.{labels_in}
+use Rattle.wasm_valid.proofs.flat.fits_labels.Given as goal
+
+-- all fit where those that are left do
+abbrev pub invariant-loop-index : goal.invariant-loop-index
+invariant-loop-index l =
+    let known = labels_in l.«module» l.opens.top (reverse l.opens.outer.items) in
+    all_fit known l.count l.labels l.operands.own ≡ all_fit known l.count (drop l.index-index l.labels) l.operands.own

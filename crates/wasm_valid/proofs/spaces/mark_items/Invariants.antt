@@ -1,0 +1,10 @@
+use Rattle.std.proofs.Common.{take}
+use Rattle.std.specs.List.{list_any}
+use Rattle.wasm_syntax.specs.Blocks.{block_of}
+use Rattle.wasm_valid.specs.Spaces.{refers_to}
+use Rattle.wasm_valid.specs.Views.{Marks}
+use Rattle.wasm_valid.proofs.spaces.mark_items.Given as goal
+
+abbrev pub invariant-loop-item : goal.invariant-loop-item
+invariant-loop-item l =
+    Marks l.fn.flags l.flags (λ x. list_any (λ item. list_any (refers_to x) (block_of l.«module» item)) (take l.item-index l.items))
