@@ -102,8 +102,8 @@ pub repeated : (es : List Export) (i : ℕ) (e : Export) (name : List ℕ) → i
     → names_differ es ≡ fresh (take i es) (drop i es) → false ≡ names_differ es
 repeated es i e name h f g named left =
     sym (left ∙ fresh_next es i e h
-        ∙ ap (λ n. not (is_named n (take i es)) && fresh (take (i + 1) es) (drop (i + 1) es)) (sym (name_at es i e name f g))
-        ∙ ap (λ b. not b && fresh (take (i + 1) es) (drop (i + 1) es)) named)
+    ∙ ap (λ n. not (is_named n (take i es)) && fresh (take (i + 1) es) (drop (i + 1) es)) (sym (name_at es i e name f g))
+    ∙ ap (λ b. not b && fresh (take (i + 1) es) (drop (i + 1) es)) named)
 
 -- the next export has a name that wasn't seen
 pub goes_on : (es : List Export) (i : ℕ) (e : Export) (name : List ℕ) → i < length es → e ≡ get_or es i e → name ≡ e.name → is_named name (take i es) ≡ false

@@ -22,8 +22,9 @@ swap_and false false c = refl
 
 one_number : (x j k : ℕ) → ((nat_eq x j) && (nat_eq (suc j) (suc k))) ≡ ((nat_eq x k) && (nat_eq j k))
 one_number x j k = elim (eqb_tells j k) [
-    inl same ↦ ap (λ b. (nat_eq x j) && b) (eq-eqb (suc j) (suc k) (ap suc same.1)) ∙ ap (λ n. (nat_eq x n) && true) same.1 ∙ sym (ap (λ b. (nat_eq x k) && b) same.0)
-  | inr apart ↦ ap (λ b. (nat_eq x j) && b) (ne_eqb (suc j) (suc k) (λ e. apart.1 (omega arith))) ∙ and_false (nat_eq x j) ∙ sym (ap (λ b. (nat_eq x k) && b) apart.0 ∙ and_false (nat_eq x k)) ]
+  | inl same ↦ ap (λ b. (nat_eq x j) && b) (eq-eqb (suc j) (suc k) (ap suc same.1)) ∙ ap (λ n. (nat_eq x n) && true) same.1 ∙ sym (ap (λ b. (nat_eq x k) && b) same.0)
+  | inr apart ↦ ap (λ b. (nat_eq x j) && b) (ne_eqb (suc j) (suc k) (λ e. apart.1 (omega arith))) ∙ and_false (nat_eq x j) ∙ sym (ap (λ b. (nat_eq x k) && b) apart.0 ∙ and_false (nat_eq x k))
+]
 
 -- the last of these numbers
 pub counts_to-snoc : (k j : ℕ) (xs : List ℕ) (x : ℕ) → counts_to (suc k) j (xs ++ x ∷ []) ≡ ((nat_eq x k) && counts_to k j xs)
@@ -76,19 +77,19 @@ ends-at_depth m d (id ∷ ids) = ap (λ xs. ends_in m d id ++ xs) (ends-at_depth
 deep-at_depth : (k d : ℕ) (ids : List BlockId) → k ≤ d → AreDeep k (at_depth d ids)
 unfolding at_depth
 deep-at_depth k d [] h = tt
-deep-at_depth k d (id ∷ ids) h = (h , deep-at_depth k d ids h)
+deep-at_depth k d (id ∷ ids) h = (h, deep-at_depth k d ids h)
 
 deep-append : (k : ℕ) (xs ys : List Deep) → AreDeep k xs → AreDeep k ys → AreDeep k (xs ++ ys)
 deep-append k [] ys h g = g
-deep-append k (x ∷ xs) ys h g = (h.0 , deep-append k xs ys h.1 g)
+deep-append k (x ∷ xs) ys h g = (h.0, deep-append k xs ys h.1 g)
 
 deep-less : (k j : ℕ) (xs : List Deep) → j ≤ k → AreDeep k xs → AreDeep j xs
 deep-less k j [] le h = tt
-deep-less k j (x ∷ xs) le h = (omega (arith, h.0) , deep-less k j xs le h.1)
+deep-less k j (x ∷ xs) le h = (omega (arith, h.0), deep-less k j xs le h.1)
 
 deep-first : (k : ℕ) (xs ys : List Deep) → AreDeep k (xs ++ ys) → AreDeep k xs
 deep-first k [] ys h = tt
-deep-first k (x ∷ xs) ys h = (h.0 , deep-first k xs ys h.1)
+deep-first k (x ∷ xs) ys h = (h.0, deep-first k xs ys h.1)
 
 deep-last : (k : ℕ) (xs : List Deep) (y : Deep) → AreDeep k (xs ++ y ∷ []) → k ≤ y.0
 deep-last k [] y h = h.0
@@ -133,7 +134,6 @@ none_pending m left ids h p e =
 
 -- the last one to come ends last, and its own blocks before it
 module _ (m : Module) (left : ℕ) (ids rest : List BlockId) (id : BlockId) (some_left : 0 < left) (p : Pending m left ids) (e : ids ≡ rest ++ id ∷ []) where
-
   abbrev parts : Ends p.blocks rest id
   parts = front_back p.blocks rest id (p.ids_are ∙ e)
 

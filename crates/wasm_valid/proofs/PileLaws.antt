@@ -30,9 +30,10 @@ pub reverse_parts : {X : Type 0} (xs : List X) (b : ℕ) → b ≤ length xs
     → (reverse (drop b xs) ≡ take (length (reverse xs) - b) (reverse xs)) × (reverse (take b xs) ≡ drop (length (reverse xs) - b) (reverse xs))
 reverse_parts xs b h =
     let split : reverse xs ≡ reverse (drop b xs) ++ reverse (take b xs) = ap reverse (sym (take-append-drop b xs)) ∙ reverse-append (take b xs) (drop b xs) in
-    let len : length (reverse (drop b xs)) ≡ length (reverse xs) - b = length-reverse (drop b xs) ∙ length-drop b xs ∙ ap (λ n. n - b) (sym (length-reverse xs)) in
-    ( sym (ap (take (length (reverse xs) - b)) split ∙ take_at (reverse (drop b xs)) (reverse (take b xs)) (length (reverse xs) - b) len)
-    , sym (ap (drop (length (reverse xs) - b)) split ∙ drop_at (reverse (drop b xs)) (reverse (take b xs)) (length (reverse xs) - b) len) )
+    let len : length (reverse (drop b xs)) ≡ length (reverse xs) - b = length-reverse (drop b xs) ∙ length-drop b xs ∙ ap (λ n. n - b) (sym (length-reverse xs)) in (
+      sym (ap (take (length (reverse xs) - b)) split ∙ take_at (reverse (drop b xs)) (reverse (take b xs)) (length (reverse xs) - b) len),
+      sym (ap (drop (length (reverse xs) - b)) split ∙ drop_at (reverse (drop b xs)) (reverse (take b xs)) (length (reverse xs) - b) len),
+    )
 
 -- no element above a place
 pub nothing_above : {X : Type 0} (xs : List X) (base : ℕ) → base ≤ length xs → reverse (drop base xs) ≡ [] → take base xs ≡ xs
@@ -46,9 +47,9 @@ pub closes : (list : List (Option ValType)) (base : ℕ) (any : Bool) (p : Pile)
 closes list base any p b view stands spent le =
     let P : Pile → Type 0 = λ p. p.own.types ≡ [] → b ≤ length p.under → (reverse (drop b list) ≡ take (length p.under - b) p.under) × (reverse (take b list) ≡ drop (length p.under - b) p.under) in
     subst P view (λ spent le.
-        let whole : take base list ≡ list = nothing_above list base stands spent in
-        let Q : List (Option ValType) → Type 0 = λ u. b ≤ length (reverse u) → (reverse (drop b list) ≡ take (length (reverse u) - b) (reverse u)) × (reverse (take b list) ≡ drop (length (reverse u) - b) (reverse u)) in
-        subst Q (sym whole) (λ le. reverse_parts list b (let n : length (reverse list) ≡ length list = length-reverse list in omega arith)) le) spent le
+    let whole : take base list ≡ list = nothing_above list base stands spent in
+    let Q : List (Option ValType) → Type 0 = λ u. b ≤ length (reverse u) → (reverse (drop b list) ≡ take (length (reverse u) - b) (reverse u)) × (reverse (take b list) ≡ drop (length (reverse u) - b) (reverse u)) in
+    subst Q (sym whole) (λ le. reverse_parts list b (let n : length (reverse list) ≡ length list = length-reverse list in omega arith)) le) spent le
 
 -- the operands of a block that opens
 pub opens : (list : List (Option ValType)) (base : ℕ) → base ≤ length list → reverse (take (length list) list) ≡ reverse (drop base list) ++ reverse (take base list)
@@ -86,8 +87,8 @@ no_more types left d list base at any p q h =
     let none_left : drop base (take at list) ≡ [] = drop_all base (take at list) (omega (arith, length-take at list)) in
     let P : List ValType → Type 0 = λ ts. is_some (take_all ts (record { types = reverse (drop base (take at list)); any = any })) ≡ any in
     subst P (sym (reverse_more types left d p q))
-        (let Q : List (Option ValType) → Type 0 = λ us. is_some (take_all (get_or types (left - 1) d ∷ reverse (take (left - 1) types)) (record { types = reverse us; any = any })) ≡ any in
-        subst Q (sym none_left) (by_mark any))
+    (let Q : List (Option ValType) → Type 0 = λ us. is_some (take_all (get_or types (left - 1) d ∷ reverse (take (left - 1) types)) (record { types = reverse us; any = any })) ≡ any in
+    subst Q (sym none_left) (by_mark any))
   where
     by_mark : (any : Bool) → is_some (take_all (get_or types (left - 1) d ∷ reverse (take (left - 1) types)) (record { types = []; any = any })) ≡ any
     by_mark true = ap is_some (take_all-anything (reverse (take (left - 1) types)))
@@ -97,7 +98,7 @@ no_more types left d list base at any p q h =
 pub one_less : (types : List ValType) (left : ℕ) (d : ValType) (list : List (Option ValType)) (base at : ℕ) (any : Bool) (x : Option ValType)
     → 0 < left → left ≤ length types → base < at → at ≤ length list → x ≡ get_or list (at - 1) x → fits (get_or types (left - 1) d) x ≡ true
     → is_some (take_all (reverse (take left types)) (record { types = reverse (drop base (take at list)); any = any }))
-        ≡ is_some (take_all (reverse (take (left - 1) types)) (record { types = reverse (drop base (take (at - 1) list)); any = any }))
+    ≡ is_some (take_all (reverse (take (left - 1) types)) (record { types = reverse (drop base (take (at - 1) list)); any = any }))
 one_less types left d list base at any x p q h k e f =
     ap (λ ts. is_some (take_all ts (record { types = reverse (drop base (take at list)); any = any }))) (reverse_more types left d p q)
     ∙ ap (λ us. is_some (take_all (get_or types (left - 1) d ∷ reverse (take (left - 1) types)) (record { types = us; any = any }))) (reverse_above list base at x h k)

@@ -42,8 +42,8 @@ label_found m top xs (suc k) len o ts n h e f g =
     let turned : get_or (reverse xs) k o ≡ get_or xs (length xs - 1 - k) o = get_or-reverse xs k o (omega arith) in
     let place : length xs - 1 - k ≡ len - suc k = omega arith in
     sym (slice_get-map (λ (outer : Outer). types_in m outer.open.label) (reverse xs) k o within
-        ∙ ap (λ (outer : Outer). Some (types_in m outer.open.label)) (turned ∙ ap (λ j. get_or xs j o) place ∙ sym f)
-        ∙ ap Some (sym g))
+    ∙ ap (λ (outer : Outer). Some (types_in m outer.open.label)) (turned ∙ ap (λ j. get_or xs j o) place ∙ sym f)
+    ∙ ap Some (sym g))
 
 -- Numbers.
 
@@ -174,7 +174,7 @@ after_opens b m c i n g s r1 r2 e f t k =
 pub within_opens : (h : Heights) (m : Module) (c : Context) (n : Nesting) (g : FuncType) (s r1 r2 : Operands)
     → block_type m n.ty ≡ Some g → tested n.other s ≡ Some r1 → take_all (reverse g.params) r1 ≡ Some r2
     → height_within (Some n) h m c s
-        ≡ length r2.types + max (h (with_label (label_of n.again g) c) n.body g) (other_height (λ id. h (with_label (label_of n.again g) c) id g) n.other)
+    ≡ length r2.types + max (h (with_label (label_of n.again g) c) n.body g) (other_height (λ id. h (with_label (label_of n.again g) c) id g) n.other)
 within_opens h m c n g s r1 r2 f t k =
     ap (λ o. count_at o (λ g. count_at (tested n.other s) (λ rest. count_at (take_all (reverse g.params) rest) (height_on h c n g)))) f
     ∙ ap (λ o. count_at o (λ rest. count_at (take_all (reverse g.params) rest) (height_on h c n g))) t
@@ -204,7 +204,6 @@ module _ (m : Module) (F : Frame) (top : Open) (os : List Outer) (own : Operands
     (code : rest_of m top ≡ i ∷ rest_of m (next_open top)) (nests : nesting_of i ≡ Some nst)
     (type : block_type m nst.ty ≡ Some (record { params = types_in m ps; results = types_in m rs }))
     (test : tested nst.other own ≡ Some r1) (taken : take_all (reverse (types_in m ps)) r1 ≡ Some r2) (shallow : length os < most_nested) where
-
   abbrev round : Outer
   round = record { «open» = next_open top; saved = record { base = length under; any = r2.any } }
 
@@ -290,7 +289,7 @@ module _ (m : Module) (F : Frame) (top : Open) (os : List Outer) (own : Operands
   pub opens_height : (n : ℕ) → length own.types + length under ≤ n
       → left_typed m F (record { top = opened_by nst ps rs; own = exactly (types_in m ps); outer = round ∷ os; under = r2.types ++ under }) ≡ true
       → max n (left_height m F (record { top = top; own = own; outer = os; under = under }))
-        ≡ max n (left_height m F (record { top = opened_by nst ps rs; own = exactly (types_in m ps); outer = round ∷ os; under = r2.types ++ under }))
+      ≡ max n (left_height m F (record { top = opened_by nst ps rs; own = exactly (types_in m ps); outer = round ∷ os; under = r2.types ++ under }))
   unfolding left_typed left_height
   opens_height n h typed =
       let inner : inner_typed m (depth_in os) (with_label (label_of nst.again gives) outside) nst gives ≡ true = inner_is ∙ left_of_and _ _ typed in
@@ -309,13 +308,13 @@ module _ (m : Module) (F : Frame) (top : Open) (os : List Outer) (own : Operands
   unfolding left_work
   opens_work =
       let here : code_work (block_work m (depth_in os)) (rest_of m top) ≡ 1 + (inner_work (depth_in os) + code_work (block_work m (depth_in os)) rest) =
-            work_step (block_work m (depth_in os)) i rest (rest_of m top) (Some nst) code nests in
+      work_step (block_work m (depth_in os)) i rest (rest_of m top) (Some nst) code nests in
       let same : inner_work (depth_in os) ≡ inner_work (suc (depth_in (round ∷ os))) = ap inner_work deeper in
       omega (arith, here, same)
 
   pub opens_block : (n : ℕ) → length own.types + length under ≤ n → IsPlace (record { top = top; own = own; outer = os; under = under })
       → Steps m F (record { top = top; own = own; outer = os; under = under }) n
-          (record { top = opened_by nst ps rs; own = exactly (types_in m ps); outer = round ∷ os; under = r2.types ++ under }) n
+      (record { top = opened_by nst ps rs; own = exactly (types_in m ps); outer = round ∷ os; under = r2.types ++ under }) n
   opens_block n h p = record {
     typed = opens_typed;
     height = opens_height n h;
@@ -347,7 +346,6 @@ code_none : (b : Blocks) (m : Module) (c : Context) (i : Instr) (is code : List 
 code_none b m c i is code s e f = ap (λ k. after_all b m c k s) e ∙ ap (λ o. then_ o (after_all b m c is)) f
 
 module _ (m : Module) (F : Frame) (top : Open) (os : List Outer) (own : Operands) (under : List (Option ValType)) (nst : Nesting) (at : NestsAt m top nst) where
-
   abbrev known : Blocks
   known = is_block m (depth_in os)
 
@@ -364,17 +362,17 @@ module _ (m : Module) (F : Frame) (top : Open) (os : List Outer) (own : Operands
       → left_typed m F (record { top = top; own = own; outer = os; under = under }) ≡ false
   no_test g b s e t f =
       not_after (ap (λ o. by_nesting o known m around at.0 own) at.2 ∙ ap (λ o. then_ o (λ g. then_ (tested nst.other own) (holding known around nst g))) e
-          ∙ ap (λ o. then_ o (holding known around nst g)) (fails (tested nst.other own) b s t f))
+      ∙ ap (λ o. then_ o (holding known around nst g)) (fails (tested nst.other own) b s t f))
 
   pub no_params : (g : FuncType) (b b' : Bool) (s s' : Operands) → block_type m nst.ty ≡ Some g → Becomes (tested nst.other own) b s → b ≡ true
       → Becomes (take_all (reverse g.params) s) b' s' → b' ≡ false
       → left_typed m F (record { top = top; own = own; outer = os; under = under }) ≡ false
   no_params g b b' s s' e t f k w =
       not_after (ap (λ o. by_nesting o known m around at.0 own) at.2 ∙ ap (λ o. then_ o (λ g. then_ (tested nst.other own) (holding known around nst g))) e
-          ∙ ap (λ o. then_ o (holding known around nst g)) (passes (tested nst.other own) b s t f)
-          ∙ ap (λ o. when (known (with_label (label_of nst.again g) around) nst.body g && other_is (λ id. known (with_label (label_of nst.again g) around) id g) nst.other) (then_ o (λ rest. Some (put (map Some (reverse g.results)) rest))))
-              (fails (take_all (reverse g.params) s) b' s' k w)
-          ∙ when_none (known (with_label (label_of nst.again g) around) nst.body g && other_is (λ id. known (with_label (label_of nst.again g) around) id g) nst.other))
+      ∙ ap (λ o. then_ o (holding known around nst g)) (passes (tested nst.other own) b s t f)
+      ∙ ap (λ o. when (known (with_label (label_of nst.again g) around) nst.body g && other_is (λ id. known (with_label (label_of nst.again g) around) id g) nst.other) (then_ o (λ rest. Some (put (map Some (reverse g.results)) rest))))
+      (fails (take_all (reverse g.params) s) b' s' k w)
+      ∙ when_none (known (with_label (label_of nst.again g) around) nst.body g && other_is (λ id. known (with_label (label_of nst.again g) around) id g) nst.other))
 
   pub too_deep : (g : FuncType) (b b' : Bool) (s s' : Operands) → block_type m nst.ty ≡ Some g → Becomes (tested nst.other own) b s → b ≡ true
       → Becomes (take_all (reverse g.params) s) b' s' → b' ≡ true → most_nested ≤ length os
@@ -382,7 +380,7 @@ module _ (m : Module) (F : Frame) (top : Open) (os : List Outer) (own : Operands
   too_deep g b b' s s' e t f k w deep =
       let none_left : depth_in os ≡ 0 = omega arith in
       not_after (after_opens known m around at.0 nst g own s s' at.2 e (passes (tested nst.other own) b s t f) (passes (take_all (reverse g.params) s) b' s' k w)
-          ∙ ap (λ d. when (inner_typed m d (with_label (label_of nst.again g) around) nst g) (Some (put (map Some (reverse g.results)) s'))) none_left)
+      ∙ ap (λ d. when (inner_typed m d (with_label (label_of nst.again g) around) nst g) (Some (put (map Some (reverse g.results)) s'))) none_left)
 
 -- the same, as the code does it
 pub open_goes : (m : Module) (F : Frame) (top top' : Open) (xs xs' : List Outer) (own own' : Operands) (under under' under2 : List (Option ValType)) (nst : Nesting) (ps rs : Types) (b b' : Bool) (s s' : Operands) (saved : Saved) (n : ℕ)
@@ -396,10 +394,10 @@ open_goes m F top top' xs xs' own own' under under' under2 nst ps rs b b' s s' s
     let P : Place → Type 0 = λ q. Steps m F (record { top = top; own = own; outer = reverse xs; under = under }) n q n in
     let kept : saved ≡ record { base = length under; any = s'.any } = same_saved saved (length under) s'.any (base ∙ ap length u) any in
     let outer : reverse xs' ≡ record { «open» = next_open top; saved = record { base = length under; any = s'.any } } ∷ reverse xs =
-          ap reverse ex ∙ reverse-append xs (record { «open» = next_open top; saved = saved } ∷ []) ∙ ap (λ (v : Saved). record { «open» = next_open top; saved = v } ∷ reverse xs) kept in
+    ap reverse ex ∙ reverse-append xs (record { «open» = next_open top; saved = saved } ∷ []) ∙ ap (λ (v : Saved). record { «open» = next_open top; saved = v } ∷ reverse xs) kept in
     subst P (sym (same_place _ _ _ _ _ _ _ _ et eo outer (eu ∙ ap (λ us. s'.types ++ us) u)))
-        (opens_block m F top (reverse xs) own under at.0 nst ps rs s s' at.1 at.2 type (passes (tested nst.other own) b s t f) (passes (take_all (reverse (types_in m ps)) s) b' s' k w)
-            (omega (arith, length-reverse xs)) n counted p)
+    (opens_block m F top (reverse xs) own under at.0 nst ps rs s s' at.1 at.2 type (passes (tested nst.other own) b s t f) (passes (take_all (reverse (types_in m ps)) s) b' s' k w)
+    (omega (arith, length-reverse xs)) n counted p)
 
 -- Ends.
 
@@ -417,7 +415,6 @@ above_end : (n U L R : ℕ) → L + U ≤ n → max n (R + U) ≡ max n (max (U 
 above_end n U L R h = omega arith
 
 module _ (m : Module) (F : Frame) (top : Open) (own : Operands) (under : List (Option ValType)) (n : ℕ) (done_ : rest_of m top ≡ []) where
-
   abbrev there : List Outer → Place
   there os = record { top = top; own = own; outer = os; under = under }
 
@@ -480,10 +477,10 @@ module _ (m : Module) (F : Frame) (top : Open) (own : Operands) (under : List (O
       let Q : ℕ → ℕ = λ k. rest_height m F o.«open» os k s in
       let base : length (under_of o under) ≡ o.saved.base = omega (arith, length-drop (length under - o.saved.base) under, p.stacked.0) in
       let count : length s.types ≡ R + (length under - o.saved.base) =
-            length-append (map Some (reverse (types_in m top.results))) (take (length under - o.saved.base) under)
-            ∙ omega (arith, length-map (reverse (types_in m top.results)) (λ (t : ValType). Some t), length-reverse (types_in m top.results), length-take-le (length under - o.saved.base) under (omega arith)) in
+      length-append (map Some (reverse (types_in m top.results))) (take (length under - o.saved.base) under)
+      ∙ omega (arith, length-map (reverse (types_in m top.results)) (λ (t : ValType). Some t), length-reverse (types_in m top.results), length-take-le (length under - o.saved.base) under (omega arith)) in
       let least : length s.types ≤ height_all (block_height m (depth_in os)) (is_block m (depth_in os)) m (context_in m F o.«open» os) (rest_of m o.«open») s =
-            height_least (block_height m (depth_in os)) (is_block m (depth_in os)) m (context_in m F o.«open» os) (rest_of m o.«open») s in
+      height_least (block_height m (depth_in os)) (is_block m (depth_in os)) m (context_in m F o.«open» os) (rest_of m o.«open») s in
       let more : length under + R ≤ Q o.saved.base = omega (arith, count, least, p.stacked.0) in
       let work : other_work (block_work m (suc d)) top.second ≡ 0 = ap (other_work (block_work m (suc d))) f in
       record {
@@ -506,12 +503,13 @@ module _ (m : Module) (F : Frame) (top : Open) (own : Operands) (under : List (O
       let d = depth_in [] in
       let c = context_in m F top [] in
       let g = type_in m top in
-      let R : ℕ = length (types_in m top.results) in
-      ( ap (λ b. (b && other_is (λ id. is_block m (suc d) c id g) top.second) && true) (ends_at [] ∙ e)
-          ∙ ap (λ o. other_is (λ id. is_block m (suc d) c id g) o && true) f
-      , above_end n (length under) (length own.types) R h
-          ∙ sym (ap (λ x. max n (max (length under + max (max x R) (other_height (λ id. block_height m (suc d) c id g) top.second)) 0)) (tall_at [])
-              ∙ ap (λ o. max n (max (length under + max (max (length own.types) R) (other_height (λ id. block_height m (suc d) c id g) o)) 0)) f) )
+      let R : ℕ = length (types_in m top.results) in (
+        ap (λ b. (b && other_is (λ id. is_block m (suc d) c id g) top.second) && true) (ends_at [] ∙ e)
+            ∙ ap (λ o. other_is (λ id. is_block m (suc d) c id g) o && true) f,
+        above_end n (length under) (length own.types) R h
+            ∙ sym (ap (λ x. max n (max (length under + max (max x R) (other_height (λ id. block_height m (suc d) c id g) top.second)) 0)) (tall_at [])
+            ∙ ap (λ o. max n (max (length under + max (max (length own.types) R) (other_height (λ id. block_height m (suc d) c id g) o)) 0)) f),
+      )
 
 step_to : (m : Module) (F : Frame) (p q q' : Place) (n k : ℕ) → Steps m F p n q n → q' ≡ q → k ≡ n → Steps m F p n q' k
 step_to m F p q q' n k h e f =
@@ -538,15 +536,15 @@ end_moves m F top os own r under under' n k Went q at e f h p u closes =
     let to = closes.0 in
     let P : List Outer → Type 0 = λ xs. IsPlace (record { top = top; own = own; outer = xs; under = under }) → Steps m F (record { top = top; own = own; outer = xs; under = under }) n q k in
     subst P (sym to.outer) (λ p'.
-        step_to m F _ _ q n k (end_close m F top own under n at to.round q.outer e f h p')
-            (same_place q.top to.round.«open» q.own (put (map Some (reverse (types_in m top.results))) (own_of to.round under)) q.outer q.outer q.under (under_of to.round under)
-                to.top (to.own ∙ ap (λ us. put (map Some (reverse (types_in m top.results))) (own_of to.round us)) u) refl (to.under ∙ ap (under_of to.round) u))
-            closes.1) p
+    step_to m F _ _ q n k (end_close m F top own under n at to.round q.outer e f h p')
+    (same_place q.top to.round.«open» q.own (put (map Some (reverse (types_in m top.results))) (own_of to.round under)) q.outer q.outer q.under (under_of to.round under)
+    to.top (to.own ∙ ap (λ us. put (map Some (reverse (types_in m top.results))) (own_of to.round us)) u) refl (to.under ∙ ap (under_of to.round) u))
+    closes.1) p
 end_moves m F top os own r under under' n k Untyped q at e f h p u closes = absurd closes
 end_moves m F top os own r under under' n k Ended q at e f h p u closes =
     let P : List Outer → Type 0 = λ xs. (left_typed m F (record { top = top; own = own; outer = xs; under = under }) ≡ true) × (k ≡ max n (left_height m F (record { top = top; own = own; outer = xs; under = under }))) in
     let both = end_body m F top own under n at e f h in
-    subst P (sym closes.0) (both.0 , closes.1 ∙ ap (λ us. max n (length (types_in m top.results) + length us)) u ∙ both.1)
+    subst P (sym closes.0) (both.0, closes.1 ∙ ap (λ us. max n (length (types_in m top.results) + length us)) u ∙ both.1)
 
 -- Steps.
 
@@ -573,7 +571,7 @@ note_moves m F p n n' Went q k e h = record {
   place = h.place;
 }
 note_moves m F p n n' Untyped q k e h = h
-note_moves m F p n n' Ended q k e h = (h.0 , h.1 ∙ absorbs n n' _ _ e (place_least m F p))
+note_moves m F p n n' Ended q k e h = (h.0, h.1 ∙ absorbs n n' _ _ e (place_least m F p))
 
 -- where a block has no more instructions, and where it has
 pub rest_ends : (m : Module) (o : Open) (code : List Instr) → code ≡ block_of m o.block → length code ≤ o.at → rest_of m o ≡ []
@@ -646,5 +644,5 @@ body_untyped m F body ty q n h e = sym (start_typed m F body ty) ∙ h.typed ∙
 
 pub body_ends : (m : Module) (F : Frame) (body : BlockId) (ty : ℕ) (q : Place) (n k : ℕ) → Reached m F (start_of body ty) q n → left_typed m F q ≡ true → k ≡ max n (left_height m F q)
     → (is_block m (suc most_nested) (record { locals = F.locals; labels = types_in m (y.Results ty) ∷ []; results = F.results }) body (record { params = []; results = types_in m (y.Results ty) }) ≡ true)
-      × (k ≡ block_height m (suc most_nested) (record { locals = F.locals; labels = types_in m (y.Results ty) ∷ []; results = F.results }) body (record { params = []; results = types_in m (y.Results ty) }))
-body_ends m F body ty q n k h e f = (sym (start_typed m F body ty) ∙ h.typed ∙ e , f ∙ sym (h.height e) ∙ start_height m F body ty)
+    × (k ≡ block_height m (suc most_nested) (record { locals = F.locals; labels = types_in m (y.Results ty) ∷ []; results = F.results }) body (record { params = []; results = types_in m (y.Results ty) }))
+body_ends m F body ty q n k h e f = (sym (start_typed m F body ty) ∙ h.typed ∙ e, f ∙ sym (h.height e) ∙ start_height m F body ty)

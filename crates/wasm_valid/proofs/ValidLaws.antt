@@ -24,25 +24,26 @@ from_none rs = record { params = []; results = rs }
 -- the pass over a body speaks of the function's type
 pub body_is : (m : Module) (f : Func) (g : FuncType) (locals : List ValType) (height : Option ℕ) → slice_get m.types f.ty ≡ Some g → locals ≡ locals_of g f → few_locals g f ≡ true
     → BodyIs (is_block m (suc most_nested) (of_results locals (types_in m (y.Results f.ty))) f.body (from_none (types_in m (y.Results f.ty))))
-        (block_height m (suc most_nested) (of_results locals (types_in m (y.Results f.ty))) f.body (from_none (types_in m (y.Results f.ty)))) height
+    (block_height m (suc most_nested) (of_results locals (types_in m (y.Results f.ty))) f.body (from_none (types_in m (y.Results f.ty)))) height
     → BodyIs (is_typed_body m f) (body_height m f) height
 body_is m f g locals height e l few =
     let Q : Option FuncType → Type 0 = λ o.
-          BodyIs (is_block m (suc most_nested) (of_results locals (results_in o)) f.body (from_none (results_in o))) (block_height m (suc most_nested) (of_results locals (results_in o)) f.body (from_none (results_in o))) height
-          → BodyIs (typed_as o m f) (height_as o m f) height in
+    BodyIs (is_block m (suc most_nested) (of_results locals (results_in o)) f.body (from_none (results_in o))) (block_height m (suc most_nested) (of_results locals (results_in o)) f.body (from_none (results_in o))) height
+    → BodyIs (typed_as o m f) (height_as o m f) height in
     subst Q (sym e) (λ h.
-        let P : Bool → Type 0 = λ b. BodyIs (typed_within b m g f) (block_height m (suc most_nested) (body_context g f) f.body (body_type g)) height in
-        let L : List ValType → Type 0 = λ ls. BodyIs (is_block m (suc most_nested) (of_results ls g.results) f.body (from_none g.results)) (block_height m (suc most_nested) (of_results ls g.results) f.body (from_none g.results)) height in
-        subst P (sym few) (subst L l h))
+    let P : Bool → Type 0 = λ b. BodyIs (typed_within b m g f) (block_height m (suc most_nested) (body_context g f) f.body (body_type g)) height in
+    let L : List ValType → Type 0 = λ ls. BodyIs (is_block m (suc most_nested) (of_results ls g.results) f.body (from_none g.results)) (block_height m (suc most_nested) (of_results ls g.results) f.body (from_none g.results)) height in
+    subst P (sym few) (subst L l h))
 
 -- a function whose body isn't typed, after others whose bodies are
 pub first_found : (m : Module) (fs : List Func) (i : ℕ) (f : Func) → i < length fs → f ≡ get_or fs i f → is_typed_body m f ≡ false
     → first_untyped m 0 fs ≡ first_untyped m i (drop i fs) → list_all (is_typed_body m) fs ≡ list_all (is_typed_body m) (drop i fs)
     → (first_untyped m 0 fs ≡ Some i) × (list_all (is_typed_body m) fs ≡ false)
 first_found m fs i f h e untyped first all =
-    let more : drop i fs ≡ f ∷ drop (i + 1) fs = drop_more fs i f h ∙ ap (λ (x : Func). x ∷ drop (i + 1) fs) (sym e) in
-    ( first ∙ ap (first_untyped m i) more ∙ ap (λ b. if b then first_untyped m (suc i) (drop (i + 1) fs) else Some i) untyped
-    , all ∙ ap (list_all (is_typed_body m)) more ∙ ap (λ b. b && list_all (is_typed_body m) (drop (i + 1) fs)) untyped )
+    let more : drop i fs ≡ f ∷ drop (i + 1) fs = drop_more fs i f h ∙ ap (λ (x : Func). x ∷ drop (i + 1) fs) (sym e) in (
+      first ∙ ap (first_untyped m i) more ∙ ap (λ b. if b then first_untyped m (suc i) (drop (i + 1) fs) else Some i) untyped,
+      all ∙ ap (list_all (is_typed_body m)) more ∙ ap (λ b. b && list_all (is_typed_body m) (drop (i + 1) fs)) untyped,
+    )
 
 pub first_on : (m : Module) (fs : List Func) (i : ℕ) (f : Func) → i < length fs → f ≡ get_or fs i f → is_typed_body m f ≡ true
     → first_untyped m 0 fs ≡ first_untyped m i (drop i fs) → first_untyped m 0 fs ≡ first_untyped m (i + 1) (drop (i + 1) fs)
@@ -66,28 +67,31 @@ pub all_bodies : (m : Module) (fs : List Func) (i : ℕ) (heights : List ℕ) �
     → list_all (is_typed_body m) fs ≡ list_all (is_typed_body m) (drop i fs) → heights ≡ map (body_height m) (take i fs)
     → (list_all (is_typed_body m) fs ≡ true) × (heights ≡ map (body_height m) fs)
 all_bodies m fs i heights h all hs =
-    (all ∙ ap (list_all (is_typed_body m)) (drop_all i fs h) , hs ∙ ap (map (body_height m)) (take_whole i fs h))
+    (all ∙ ap (list_all (is_typed_body m)) (drop_all i fs h), hs ∙ ap (map (body_height m)) (take_whole i fs h))
 
 -- Modules.
 
 pub unnumbered : (m : Module) → is_numbered m ≡ false → (is_typed_module m ≡ false) × (None ≡ refused_function m)
 unfolding is_typed_module is_framed refused_function
-unnumbered m e =
-    ( ap (λ b. (b && obeys_rules m) && list_all (is_typed_body m) m.funcs) e
-    , sym (ap (λ b. when (b && obeys_rules m) (first_untyped m 0 m.funcs)) e) )
+unnumbered m e = (
+  ap (λ b. (b && obeys_rules m) && list_all (is_typed_body m) m.funcs) e,
+  sym (ap (λ b. when (b && obeys_rules m) (first_untyped m 0 m.funcs)) e),
+)
 
 pub unruly : (m : Module) → is_numbered m ≡ true → obeys_rules m ≡ false → (is_typed_module m ≡ false) × (None ≡ refused_function m)
 unfolding is_typed_module is_framed refused_function
-unruly m e f =
-    ( ap (λ b. (b && obeys_rules m) && list_all (is_typed_body m) m.funcs) e ∙ ap (λ b. (true && b) && list_all (is_typed_body m) m.funcs) f
-    , sym (ap (λ b. when (b && obeys_rules m) (first_untyped m 0 m.funcs)) e ∙ ap (λ b. when (true && b) (first_untyped m 0 m.funcs)) f) )
+unruly m e f = (
+  ap (λ b. (b && obeys_rules m) && list_all (is_typed_body m) m.funcs) e ∙ ap (λ b. (true && b) && list_all (is_typed_body m) m.funcs) f,
+  sym (ap (λ b. when (b && obeys_rules m) (first_untyped m 0 m.funcs)) e ∙ ap (λ b. when (true && b) (first_untyped m 0 m.funcs)) f),
+)
 
 pub untyped : (m : Module) (k : ℕ) → is_numbered m ≡ true → obeys_rules m ≡ true → first_untyped m 0 m.funcs ≡ Some k → list_all (is_typed_body m) m.funcs ≡ false
     → (is_typed_module m ≡ false) × (Some k ≡ refused_function m)
 unfolding is_typed_module is_framed refused_function
-untyped m k e f g h =
-    ( ap (λ b. (b && obeys_rules m) && list_all (is_typed_body m) m.funcs) e ∙ ap (λ b. (true && b) && list_all (is_typed_body m) m.funcs) f ∙ h
-    , sym (ap (λ b. when (b && obeys_rules m) (first_untyped m 0 m.funcs)) e ∙ ap (λ b. when (true && b) (first_untyped m 0 m.funcs)) f ∙ g) )
+untyped m k e f g h = (
+  ap (λ b. (b && obeys_rules m) && list_all (is_typed_body m) m.funcs) e ∙ ap (λ b. (true && b) && list_all (is_typed_body m) m.funcs) f ∙ h,
+  sym (ap (λ b. when (b && obeys_rules m) (first_untyped m 0 m.funcs)) e ∙ ap (λ b. when (true && b) (first_untyped m 0 m.funcs)) f ∙ g),
+)
 
 pub typed : (m : Module) → is_numbered m ≡ true → obeys_rules m ≡ true → list_all (is_typed_body m) m.funcs ≡ true → is_typed_module m ≡ true
 unfolding is_typed_module is_framed

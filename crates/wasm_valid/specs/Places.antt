@@ -76,7 +76,7 @@ left_typed m F p = rest_typed m F p.top p.outer p.own && outer_typed m F (types_
 abbrev pub rest_height : Module → Frame → Open → List Outer → ℕ → Operands → ℕ
 rest_height m F o os n s =
     n + max (max (height_all (block_height m (depth_in os)) (is_block m (depth_in os)) m (context_in m F o os) (rest_of m o) s) (length (types_in m o.results)))
-        (other_height (λ id. block_height m (suc (depth_in os)) (context_in m F o os) id (type_in m o)) o.second)
+    (other_height (λ id. block_height m (suc (depth_in os)) (context_in m F o os) id (type_in m o)) o.second)
 
 abbrev pub outer_height : Module → Frame → List ValType → List Outer → List (Option ValType) → ℕ
 outer_height m F rs [] under = 0

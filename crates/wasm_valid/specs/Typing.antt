@@ -120,7 +120,7 @@ after_other m c (i.CallIndirect x y) s =
 after_other m c i.Drop s = then_ (take_any s) (λ taken. Some taken.rest)
 after_other m c i.Select s =
     then_ (take_one v.I32 s) (λ rest. then_ (take_any rest) (λ second. then_ (take_any second.rest) (λ first.
-        then_ (select_of first.type second.type) (λ u. Some (put (u ∷ []) first.rest)))))
+    then_ (select_of first.type second.type) (λ u. Some (put (u ∷ []) first.rest)))))
 after_other m c (i.SelectTyped ts) s = after_select ts s
 after_other m c i.RefIsNull s = then_ (take_any s) (λ taken. when (fits_reference taken.type) (Some (put (Some v.I32 ∷ []) taken.rest)))
 after_other m c _ s = None

@@ -204,7 +204,10 @@ fn select_typed(operands: &mut OperandList, types: &[ValType]) -> Result<bool, A
 {
     match types {
         [ty] => {
-            if !operands.pop_type(ValType::I32) || !operands.pop_type(*ty) || !operands.pop_type(*ty) {
+            if !operands.pop_type(ValType::I32)
+                || !operands.pop_type(*ty)
+                || !operands.pop_type(*ty)
+            {
                 return Ok(false);
             }
             operands.push(Some(*ty))?;

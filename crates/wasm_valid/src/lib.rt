@@ -16,3 +16,6 @@ mod types;
 mod valid;
 
 pub use valid::{Invalid, ValidModule, validate};
+
+#[cfg(test)]
+mod tests;

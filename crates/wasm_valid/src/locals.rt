@@ -38,7 +38,11 @@ impl Locals {
     /// The locals of a function with these parameters and runs of other locals, or none where there are too many. No run is walked
     /// before it is known that there are few enough.
     #[tactic(auto, unfolding(crate::specs::Typing::most_locals))]
-    pub fn new(alloc: Global, params: &[ValType], runs: &[(u32, ValType)]) -> Result<Option<Locals>, AllocError>
+    pub fn new(
+        alloc: Global,
+        params: &[ValType],
+        runs: &[(u32, ValType)],
+    ) -> Result<Option<Locals>, AllocError>
         ensures few { IfOk result (λ locals. is_some locals ≡ nat_le (length params.now + count_locals runs.now) most_locals) }
         ensures types { IfOk result (λ locals. IfSome locals (λ types. types ≡ params.now ++ flat_map (λ run. replicate run.0 run.1) runs.now)) }
     {

@@ -147,7 +147,11 @@ impl OperandList {
     }
 
     /// Takes operands of these types and puts operands of those, each in their order.
-    pub fn exchange_types(&mut self, takes: &[ValType], gives: &[ValType]) -> Result<bool, AllocError>
+    pub fn exchange_types(
+        &mut self,
+        takes: &[ValType],
+        gives: &[ValType],
+    ) -> Result<bool, AllocError>
         ensures own { IfOk result (λ fine. Becomes (exchange (reverse takes.now) (reverse gives.now) self.old.own) fine self.new.own) }
         ensures under { self.new.under ≡ self.old.under }
     {

@@ -193,10 +193,7 @@ pub fn sort_signature(
             None => None,
         },
         Sort::TableFill(index) => match table_type(module, spaces, index) {
-            Some(table) => typed(
-                Takes::Three(ValType::I32, table.elem, ValType::I32),
-                None,
-            ),
+            Some(table) => typed(Takes::Three(ValType::I32, table.elem, ValType::I32), None),
             None => None,
         },
         Sort::RefNull(ty) => typed_where(is_reference_type(ty), Takes::Nothing, Some(ty)),

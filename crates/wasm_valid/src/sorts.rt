@@ -190,8 +190,14 @@ pub fn instr_sort(instr: &Instr) -> Option<Sort>
         Instr::TableSize(x) => Some(Sort::TableSize(*x)),
         Instr::TableFill(x) => Some(Sort::TableFill(*x)),
         Instr::RefFunc(x) => Some(Sort::RefFunc(*x)),
-        Instr::TableInit { elem, table } => Some(Sort::TableInit { elem: *elem, table: *table }),
-        Instr::TableCopy { to, from } => Some(Sort::TableCopy { to: *to, from: *from }),
+        Instr::TableInit { elem, table } => Some(Sort::TableInit {
+            elem: *elem,
+            table: *table,
+        }),
+        Instr::TableCopy { to, from } => Some(Sort::TableCopy {
+            to: *to,
+            from: *from,
+        }),
         Instr::RefNull(ty) => Some(Sort::RefNull(*ty)),
         Instr::Unreachable => None,
         Instr::Block(_, _) => None,

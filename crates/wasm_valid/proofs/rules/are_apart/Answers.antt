@@ -14,7 +14,7 @@ loop-export-init c = record {
 pub returns-then-contains : goal.returns-then-contains
 returns-then-contains c =
     repeated c.args.exports.now c.loop-export.export-index c.export-item.result c.as_str-name.result.now c.loop-export-test.true c.export-item.is c.as_str-name.ensures
-        (sym (c.loop-export.invariant.known c.as_str-name.result) ∙ (sym c.contains.ensures ∙ c.if-contains.true)) c.loop-export.invariant.left
+    (sym (c.loop-export.invariant.known c.as_str-name.result) ∙ (sym c.contains.ensures ∙ c.if-contains.true)) c.loop-export.invariant.left
 
 pub loop-export-preserved : goal.loop-export-preserved
 loop-export-preserved c = record {

@@ -5,7 +5,7 @@ use Rattle.wasm_valid.proofs.spaces.index_spaces.Goals as goal
 pub returns : goal.returns
 returns c =
     let funcs : c.add_funcs.new.list.items ≡ funcs_of c.args.«module».now =
-      cc (c.in_ok-add_funcs.ensures, c.in_ok-funcs.ensures, c.as_slice.ensures, c.as_slice-imports.ensures) in
+    cc (c.in_ok-add_funcs.ensures, c.in_ok-funcs.ensures, c.as_slice.ensures, c.as_slice-imports.ensures) in
     let count : c.len.result ≡ length (funcs_of c.args.«module».now) = c.len.ensures ∙ c.add_funcs.new.list.ok.0 ∙ ap length funcs in
     record {
       funcs = funcs;

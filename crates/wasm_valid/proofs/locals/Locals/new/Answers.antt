@@ -7,7 +7,7 @@ pub returns-then-run-len-clause-few : goal.returns-then-run-len-clause-few
 unfolding most_locals
 returns-then-run-len-clause-few c =
     overrun c.args.params.now c.args.runs.now c.loop-run.run-index _ _ 50000 c.loop-run-test.true
-        (c.len.ensures ∙ c.loop-run.types.ok.0 ∙ c.loop-run.invariant.count) c.if-run-len.true
+    (c.len.ensures ∙ c.loop-run.types.ok.0 ∙ c.loop-run.invariant.count) c.if-run-len.true
 
 pub loop-run-preserved : goal.loop-run-preserved
 loop-run-preserved c = record {
