@@ -10,3 +10,6 @@ mod write;
 pub use embed_script::Transcript;
 pub use main_run::run_main;
 pub use words::{Asked, read_words};
+
+#[cfg(test)]
+mod validation_tests;
