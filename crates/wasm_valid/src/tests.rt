@@ -1,3 +1,5 @@
+mod rules;
+
 use crate::{Invalid, validate};
 use sqlite_items::Items;
 use std::alloc::Global;
@@ -71,28 +73,38 @@ fn add_import(alloc: Global, to: &mut Module, desc: ImportDesc) -> Result<(), Fa
     Ok(())
 }
 
-fn add_block(to: &mut Module, code: Vec<Instr>) -> Result<(), Fail> {
-    to.blocks.push(Items::from_vec(code))?;
+fn list_of<const N: usize>(alloc: Global, code: [Instr; N]) -> Result<Items<Instr>, Fail> {
+    let mut list = Items::new(alloc);
+    for instr in code {
+        list.push(instr)?;
+    }
+    Ok(list)
+}
+
+fn add_block<const N: usize>(alloc: Global, to: &mut Module, code: [Instr; N]) -> Result<(), Fail> {
+    let code = list_of(alloc, code)?;
+    to.blocks.push(code)?;
     Ok(())
 }
 
 /// A module with one function of these types and one body.
-fn body(
+fn body<const N: usize>(
     alloc: Global,
     params: &[ValType],
     results: &[ValType],
-    code: Vec<Instr>,
+    code: [Instr; N],
 ) -> Result<Module, Fail> {
     let mut to = empty(alloc);
     add_type(alloc, &mut to, params, results)?;
     add_func(alloc, &mut to, 0, &[], 0)?;
-    add_block(&mut to, code)?;
+    add_block(alloc, &mut to, code)?;
     Ok(to)
 }
 
 /// Whether a body without parameters and results is typed, in a module with a memory, a table of functions, a global of i64 and
 /// one declared function.
-fn typed(alloc: Global, code: Vec<Instr>) -> Result<bool, Fail> {
+fn typed<const N: usize>(alloc: Global, code: [Instr; N]) -> Result<bool, Fail> {
+    let code = list_of(alloc, code)?;
     let mut to = empty(alloc);
     add_type(alloc, &mut to, &[], &[])?;
     add_type(
@@ -126,12 +138,8 @@ fn typed(alloc: Global, code: Vec<Instr>) -> Result<bool, Fail> {
     })?;
     add_export(alloc, &mut to, "f", ExportDesc::Func(0))?;
     add_func(alloc, &mut to, 0, &[(1, ValType::I32)], 0)?;
-    add_block(&mut to, code)?;
+    to.blocks.push(code)?;
     Ok(validate(alloc, to).is_ok())
-}
-
-fn is_valid(alloc: Global, it: Module) -> bool {
-    validate(alloc, it).is_ok()
 }
 
 /// Why a module isn't valid, where it isn't.
@@ -150,7 +158,7 @@ fn add(alloc: Global, second: u32) -> Result<Module, Fail> {
         alloc,
         &[ValType::I32, ValType::I32],
         &[ValType::I32],
-        vec![in alloc; Instr::LocalGet(0), Instr::LocalGet(second), Instr::I32Add]?,
+        [Instr::LocalGet(0), Instr::LocalGet(second), Instr::I32Add],
     )?;
     add_export(alloc, &mut it, "add", ExportDesc::Func(0))?;
     Ok(it)
@@ -186,8 +194,8 @@ fn functions_are_counted_without_the_imported_ones(rt: HostRuntime) -> Result<()
     add_import(alloc, &mut it, ImportDesc::Func(0))?;
     add_func(alloc, &mut it, 0, &[], 0)?;
     add_func(alloc, &mut it, 0, &[], 1)?;
-    add_block(&mut it, vec![in alloc; Instr::Call(3)]?)?;
-    add_block(&mut it, vec![in alloc; Instr::Call(4)]?)?;
+    add_block(alloc, &mut it, [Instr::Call(3)])?;
+    add_block(alloc, &mut it, [Instr::Call(4)])?;
     let blame = Some(Invalid::Invalid { function: Some(1) });
     assert_eq!(rt; refusal(alloc, it), blame);
     Ok(())
@@ -198,10 +206,10 @@ fn nested(alloc: Global, depth: u32) -> Result<Module, Fail> {
     let mut it = empty(alloc);
     add_type(alloc, &mut it, &[], &[])?;
     add_func(alloc, &mut it, 0, &[], depth)?;
-    add_block(&mut it, vec![in alloc; Instr::Nop]?)?;
+    add_block(alloc, &mut it, [Instr::Nop])?;
     for inner in 0..depth {
         let block = Instr::Block(BlockType::Empty, BlockId(inner));
-        add_block(&mut it, vec![in alloc; block]?)?;
+        add_block(alloc, &mut it, [block])?;
     }
     Ok(it)
 }
@@ -220,7 +228,7 @@ fn with_locals(alloc: Global, runs: &[(u32, ValType)]) -> Result<Module, Fail> {
     let mut it = empty(alloc);
     add_type(alloc, &mut it, &[ValType::I64], &[])?;
     add_func(alloc, &mut it, 0, runs, 0)?;
-    add_block(&mut it, vec![in alloc; Instr::LocalGet(1), Instr::Drop]?)?;
+    add_block(alloc, &mut it, [Instr::LocalGet(1), Instr::Drop])?;
     Ok(it)
 }
 
@@ -245,7 +253,7 @@ fn a_choice_between_100_000_labels(rt: HostRuntime) -> Result<(), Fail> {
         labels.push(0)?;
     }
     let choice = Instr::BrTable { labels, default: 0 };
-    let code = vec![in alloc; Instr::I32Const(0), choice]?;
+    let code = [Instr::I32Const(0), choice];
     assert!(rt; typed(alloc, code)?);
     Ok(())
 }
@@ -253,32 +261,27 @@ fn a_choice_between_100_000_labels(rt: HostRuntime) -> Result<(), Fail> {
 #[test]
 fn code_that_is_never_reached(rt: HostRuntime) -> Result<(), Fail> {
     let alloc = rt.alloc();
+    assert!(rt; typed(alloc, [Instr::Unreachable, Instr::I32Add, Instr::Drop])?);
     assert!(rt;
         typed(
             alloc,
-            vec![in alloc; Instr::Unreachable, Instr::I32Add, Instr::Drop]?
+            [Instr::Return, Instr::Select, Instr::RefIsNull, Instr::Drop]
         )?
     );
-    assert!(rt;
-        typed(
-            alloc,
-            vec![in alloc; Instr::Return, Instr::Select, Instr::RefIsNull, Instr::Drop]?
-        )?
-    );
-    assert!(rt; !typed(alloc, vec![in alloc; Instr::Unreachable, Instr::Select]?)?);
+    assert!(rt; !typed(alloc, [Instr::Unreachable, Instr::Select])?);
     assert!(rt;
         !typed(
             alloc,
-            vec![in alloc;
+            [
                 Instr::Return,
                 Instr::I64Const(0),
                 Instr::I32Add,
                 Instr::Drop
-            ]?
+            ]
         )?
     );
-    assert!(rt; !typed(alloc, vec![in alloc; Instr::Br(0), Instr::I32Const(0)]?)?);
-    assert!(rt; !typed(alloc, vec![in alloc; Instr::I32Add, Instr::Drop]?)?);
+    assert!(rt; !typed(alloc, [Instr::Br(0), Instr::I32Const(0)])?);
+    assert!(rt; !typed(alloc, [Instr::I32Add, Instr::Drop])?);
     Ok(())
 }
 
@@ -288,422 +291,347 @@ const AT: MemArg = MemArg {
 };
 
 #[test]
-fn each_class_of_instruction_takes_its_operands(rt: HostRuntime) -> Result<(), Fail> {
+fn number_operations_take_their_operands(rt: HostRuntime) -> Result<(), Fail> {
     let alloc = rt.alloc();
-    // a unary and a binary operation, a test, a comparison and a conversion
-    assert!(rt;
-        typed(
-            alloc,
-            vec![in alloc; Instr::I32Const(1), Instr::I32Clz, Instr::Drop]?
-        )?
-    );
-    assert!(rt; !typed(alloc, vec![in alloc; Instr::I32Clz, Instr::Drop]?)?);
+    assert!(rt; typed(alloc, [Instr::I32Const(1), Instr::I32Clz, Instr::Drop])?);
+    assert!(rt; !typed(alloc, [Instr::I32Clz, Instr::Drop])?);
+    assert!(rt; !typed(alloc, [Instr::I64Const(1), Instr::I32Clz, Instr::Drop])?);
+    assert!(rt; !typed(alloc, [Instr::I32Const(1), Instr::I32Sub, Instr::Drop])?);
     assert!(rt;
         !typed(
             alloc,
-            vec![in alloc; Instr::I64Const(1), Instr::I32Clz, Instr::Drop]?
-        )?
-    );
-    assert!(rt;
-        !typed(
-            alloc,
-            vec![in alloc; Instr::I32Const(1), Instr::I32Sub, Instr::Drop]?
-        )?
-    );
-    assert!(rt;
-        !typed(
-            alloc,
-            vec![in alloc;
+            [
                 Instr::I64Const(1),
                 Instr::I32Const(1),
                 Instr::I32Sub,
                 Instr::Drop
-            ]?
+            ]
         )?
     );
+    Ok(())
+}
+
+#[test]
+fn tests_comparisons_and_conversions_take_their_operands(rt: HostRuntime) -> Result<(), Fail> {
+    let alloc = rt.alloc();
     assert!(rt;
         typed(
             alloc,
-            vec![in alloc;
+            [
                 Instr::I64Const(1),
                 Instr::I64Eqz,
                 Instr::I32Eqz,
                 Instr::Drop
-            ]?
+            ]
         )?
     );
-    assert!(rt;
-        !typed(
-            alloc,
-            vec![in alloc; Instr::I32Const(1), Instr::I64Eqz, Instr::Drop]?
-        )?
-    );
-    assert!(rt;
-        !typed(
-            alloc,
-            vec![in alloc; Instr::I64Const(1), Instr::I64LtS, Instr::Drop]?
-        )?
-    );
+    assert!(rt; !typed(alloc, [Instr::I32Const(1), Instr::I64Eqz, Instr::Drop])?);
+    assert!(rt; !typed(alloc, [Instr::I64Const(1), Instr::I64LtS, Instr::Drop])?);
     assert!(rt;
         typed(
             alloc,
-            vec![in alloc;
+            [
                 Instr::I64Const(1),
                 Instr::I32WrapI64,
                 Instr::I64ExtendI32U,
-                Instr::I64Eqz,
                 Instr::Drop
-            ]?
+            ]
         )?
     );
+    assert!(rt; !typed(alloc, [Instr::I32Const(1), Instr::I32WrapI64, Instr::Drop])?);
+    Ok(())
+}
+
+#[test]
+fn loads_and_stores_are_aligned(rt: HostRuntime) -> Result<(), Fail> {
+    let alloc = rt.alloc();
+    assert!(rt; typed(alloc, [Instr::I32Const(0), Instr::I32Load(AT), Instr::Drop])?);
     assert!(rt;
         !typed(
             alloc,
-            vec![in alloc; Instr::I32Const(1), Instr::I32WrapI64, Instr::Drop]?
+            [Instr::I32Const(0), Instr::I32Load16U(AT), Instr::Drop]
         )?
     );
-    // loads and stores, and their alignment
+    assert!(rt; !typed(alloc, [Instr::I64Const(0), Instr::I32Load(AT), Instr::Drop])?);
     assert!(rt;
         typed(
             alloc,
-            vec![in alloc; Instr::I32Const(0), Instr::I32Load(AT), Instr::Drop]?
-        )?
-    );
-    assert!(rt;
-        !typed(
-            alloc,
-            vec![in alloc; Instr::I32Const(0), Instr::I32Load16U(AT), Instr::Drop]?
-        )?
-    );
-    assert!(rt;
-        !typed(
-            alloc,
-            vec![in alloc; Instr::I64Const(0), Instr::I32Load(AT), Instr::Drop]?
-        )?
-    );
-    assert!(rt;
-        typed(
-            alloc,
-            vec![in alloc;
+            [
                 Instr::I32Const(0),
                 Instr::I64Const(0),
                 Instr::I64Store32(AT)
-            ]?
+            ]
         )?
     );
     assert!(rt;
         !typed(
             alloc,
-            vec![in alloc;
+            [
                 Instr::I64Const(0),
                 Instr::I32Const(0),
                 Instr::I64Store32(AT)
-            ]?
-        )?
-    );
-    // the memory and its segments
-    assert!(rt;
-        typed(
-            alloc,
-            vec![in alloc; Instr::MemorySize, Instr::MemoryGrow, Instr::Drop]?
-        )?
-    );
-    assert!(rt;
-        typed(
-            alloc,
-            vec![in alloc;
-                Instr::I32Const(0),
-                Instr::I32Const(0),
-                Instr::I32Const(0),
-                Instr::MemoryInit(0),
-                Instr::DataDrop(0)
-            ]?
-        )?
-    );
-    assert!(rt;
-        !typed(
-            alloc,
-            vec![in alloc;
-                Instr::I32Const(0),
-                Instr::I32Const(0),
-                Instr::I32Const(0),
-                Instr::MemoryInit(1)
-            ]?
-        )?
-    );
-    assert!(rt;
-        !typed(
-            alloc,
-            vec![in alloc; Instr::I32Const(0), Instr::I32Const(0), Instr::MemoryFill]?
+            ]
         )?
     );
     Ok(())
 }
 
 #[test]
-fn variables_tables_and_references(rt: HostRuntime) -> Result<(), Fail> {
+fn the_memory_and_its_segments(rt: HostRuntime) -> Result<(), Fail> {
+    let alloc = rt.alloc();
+    let zero = || Instr::I32Const(0);
+    assert!(rt; typed(alloc, [Instr::MemorySize, Instr::MemoryGrow, Instr::Drop])?);
+    assert!(rt;
+        typed(
+            alloc,
+            [
+                zero(),
+                zero(),
+                zero(),
+                Instr::MemoryInit(0),
+                Instr::DataDrop(0)
+            ]
+        )?
+    );
+    assert!(rt; !typed(alloc, [zero(), zero(), zero(), Instr::MemoryInit(1)])?);
+    assert!(rt; !typed(alloc, [zero(), zero(), Instr::MemoryFill])?);
+    Ok(())
+}
+
+#[test]
+fn variables_are_there_and_have_their_types(rt: HostRuntime) -> Result<(), Fail> {
     let alloc = rt.alloc();
     assert!(rt;
         typed(
             alloc,
-            vec![in alloc; Instr::LocalGet(0), Instr::LocalTee(0), Instr::LocalSet(0)]?
+            [Instr::LocalGet(0), Instr::LocalTee(0), Instr::LocalSet(0)]
         )?
     );
+    assert!(rt; !typed(alloc, [Instr::I64Const(0), Instr::LocalSet(0)])?);
+    assert!(rt; !typed(alloc, [Instr::I32Const(0), Instr::LocalSet(1)])?);
+    assert!(rt; typed(alloc, [Instr::GlobalGet(0), Instr::GlobalSet(0)])?);
+    assert!(rt; !typed(alloc, [Instr::I32Const(0), Instr::GlobalSet(0)])?);
+    Ok(())
+}
+
+#[test]
+fn tables_take_their_references(rt: HostRuntime) -> Result<(), Fail> {
+    let alloc = rt.alloc();
+    let zero = || Instr::I32Const(0);
+    let init = Instr::TableInit { elem: 0, table: 0 };
+    assert!(rt; typed(alloc, [zero(), Instr::RefFunc(0), Instr::TableSet(0)])?);
     assert!(rt;
         !typed(
             alloc,
-            vec![in alloc; Instr::I64Const(0), Instr::LocalSet(0)]?
-        )?
-    );
-    assert!(rt;
-        !typed(
-            alloc,
-            vec![in alloc; Instr::I32Const(0), Instr::LocalSet(1)]?
-        )?
-    );
-    assert!(rt;
-        typed(
-            alloc,
-            vec![in alloc; Instr::GlobalGet(0), Instr::GlobalSet(0)]?
-        )?
-    );
-    assert!(rt;
-        !typed(
-            alloc,
-            vec![in alloc; Instr::I32Const(0), Instr::GlobalSet(0)]?
-        )?
-    );
-    assert!(rt;
-        typed(
-            alloc,
-            vec![in alloc; Instr::I32Const(0), Instr::RefFunc(0), Instr::TableSet(0)]?
-        )?
-    );
-    assert!(rt;
-        !typed(
-            alloc,
-            vec![in alloc;
-                Instr::I32Const(0),
+            [
+                zero(),
                 Instr::RefNull(ValType::ExternRef),
                 Instr::TableSet(0)
-            ]?
-        )?
-    );
-    assert!(rt; !typed(alloc, vec![in alloc; Instr::RefFunc(1), Instr::Drop]?)?);
-    assert!(rt;
-        !typed(
-            alloc,
-            vec![in alloc; Instr::RefNull(ValType::I32), Instr::Drop]?
+            ]
         )?
     );
     assert!(rt;
         typed(
             alloc,
-            vec![in alloc;
+            [
                 Instr::RefNull(ValType::FuncRef),
-                Instr::I32Const(1),
+                zero(),
                 Instr::TableGrow(0),
                 Instr::Drop
-            ]?
+            ]
         )?
     );
+    assert!(rt; typed(alloc, [zero(), zero(), zero(), init, Instr::ElemDrop(0)])?);
+    Ok(())
+}
+
+#[test]
+fn references_are_declared_and_tested(rt: HostRuntime) -> Result<(), Fail> {
+    let alloc = rt.alloc();
+    assert!(rt; !typed(alloc, [Instr::RefFunc(1), Instr::Drop])?);
+    assert!(rt; !typed(alloc, [Instr::RefNull(ValType::I32), Instr::Drop])?);
     assert!(rt;
         typed(
             alloc,
-            vec![in alloc;
-                Instr::I32Const(0),
-                Instr::I32Const(0),
-                Instr::I32Const(0),
-                Instr::TableInit { elem: 0, table: 0 },
-                Instr::ElemDrop(0)
-            ]?
-        )?
-    );
-    assert!(rt;
-        typed(
-            alloc,
-            vec![in alloc;
+            [
                 Instr::I32Const(0),
                 Instr::TableGet(0),
                 Instr::RefIsNull,
                 Instr::Drop
-            ]?
+            ]
+        )?
+    );
+    assert!(rt; !typed(alloc, [Instr::I32Const(0), Instr::RefIsNull, Instr::Drop])?);
+    Ok(())
+}
+
+#[test]
+fn calls_take_their_parameters(rt: HostRuntime) -> Result<(), Fail> {
+    let alloc = rt.alloc();
+    let through = |table: u32| Instr::CallIndirect { ty: 1, table };
+    assert!(rt;
+        typed(
+            alloc,
+            [
+                Instr::I32Const(0),
+                Instr::I64Const(0),
+                Instr::Call(0),
+                Instr::Drop
+            ]
         )?
     );
     assert!(rt;
         !typed(
             alloc,
-            vec![in alloc; Instr::I32Const(0), Instr::RefIsNull, Instr::Drop]?
+            [
+                Instr::I64Const(0),
+                Instr::I32Const(0),
+                Instr::Call(0),
+                Instr::Drop
+            ]
+        )?
+    );
+    assert!(rt; !typed(alloc, [Instr::Call(2)])?);
+    assert!(rt;
+        typed(
+            alloc,
+            [
+                Instr::I32Const(0),
+                Instr::I64Const(0),
+                Instr::I32Const(0),
+                through(0),
+                Instr::Drop
+            ]
+        )?
+    );
+    assert!(rt;
+        !typed(
+            alloc,
+            [
+                Instr::I32Const(0),
+                Instr::I64Const(0),
+                Instr::I32Const(0),
+                through(1),
+                Instr::Drop
+            ]
         )?
     );
     Ok(())
 }
 
 #[test]
-fn calls_selects_and_branches(rt: HostRuntime) -> Result<(), Fail> {
+fn selects_take_two_operands_of_one_type(rt: HostRuntime) -> Result<(), Fail> {
     let alloc = rt.alloc();
-    assert!(rt;
-        typed(
-            alloc,
-            vec![in alloc;
-                Instr::I32Const(0),
-                Instr::I64Const(0),
-                Instr::Call(0),
-                Instr::Drop
-            ]?
-        )?
-    );
-    assert!(rt;
-        !typed(
-            alloc,
-            vec![in alloc;
-                Instr::I64Const(0),
-                Instr::I32Const(0),
-                Instr::Call(0),
-                Instr::Drop
-            ]?
-        )?
-    );
-    assert!(rt; !typed(alloc, vec![in alloc; Instr::Call(2)]?)?);
-    assert!(rt;
-        typed(
-            alloc,
-            vec![in alloc;
-                Instr::I32Const(0),
-                Instr::I64Const(0),
-                Instr::I32Const(0),
-                Instr::CallIndirect { ty: 1, table: 0 },
-                Instr::Drop
-            ]?
-        )?
-    );
-    assert!(rt;
-        !typed(
-            alloc,
-            vec![in alloc;
-                Instr::I32Const(0),
-                Instr::I64Const(0),
-                Instr::I32Const(0),
-                Instr::CallIndirect { ty: 1, table: 1 },
-                Instr::Drop
-            ]?
-        )?
-    );
-    assert!(rt; !typed(alloc, vec![in alloc; Instr::Drop]?)?);
-    assert!(rt;
-        typed(
-            alloc,
-            vec![in alloc;
-                Instr::I64Const(0),
-                Instr::I64Const(0),
-                Instr::I32Const(0),
-                Instr::Select,
-                Instr::Drop
-            ]?
-        )?
-    );
-    assert!(rt;
-        !typed(
-            alloc,
-            vec![in alloc;
-                Instr::I32Const(0),
-                Instr::I64Const(0),
-                Instr::I32Const(0),
-                Instr::Select,
-                Instr::Drop
-            ]?
-        )?
-    );
-    assert!(rt;
-        !typed(
-            alloc,
-            vec![in alloc;
-                Instr::RefFunc(0),
-                Instr::RefFunc(0),
-                Instr::I32Const(0),
-                Instr::Select,
-                Instr::Drop
-            ]?
-        )?
-    );
     let one = Items::from_slice(alloc, &[ValType::FuncRef])?;
+    let two = Items::from_slice(alloc, &[ValType::I32, ValType::I32])?;
     assert!(rt;
         typed(
             alloc,
-            vec![in alloc;
+            [
+                Instr::I64Const(0),
+                Instr::I64Const(0),
+                Instr::I32Const(0),
+                Instr::Select,
+                Instr::Drop
+            ]
+        )?
+    );
+    assert!(rt;
+        !typed(
+            alloc,
+            [
+                Instr::I32Const(0),
+                Instr::I64Const(0),
+                Instr::I32Const(0),
+                Instr::Select,
+                Instr::Drop
+            ]
+        )?
+    );
+    assert!(rt;
+        !typed(
+            alloc,
+            [
+                Instr::RefFunc(0),
+                Instr::RefFunc(0),
+                Instr::I32Const(0),
+                Instr::Select,
+                Instr::Drop
+            ]
+        )?
+    );
+    assert!(rt;
+        typed(
+            alloc,
+            [
                 Instr::RefFunc(0),
                 Instr::RefFunc(0),
                 Instr::I32Const(0),
                 Instr::SelectTyped(one),
                 Instr::Drop
-            ]?
+            ]
         )?
     );
-    let two = Items::from_slice(alloc, &[ValType::I32, ValType::I32])?;
-    assert!(rt;
-        !typed(
-            alloc,
-            vec![in alloc; Instr::Unreachable, Instr::SelectTyped(two)]?
-        )?
-    );
-    assert!(rt; !typed(alloc, vec![in alloc; Instr::Br(1)]?)?);
-    assert!(rt; !typed(alloc, vec![in alloc; Instr::BrIf(0)]?)?);
-    assert!(rt; typed(alloc, vec![in alloc; Instr::I32Const(0), Instr::BrIf(0)]?)?);
+    assert!(rt; !typed(alloc, [Instr::Unreachable, Instr::SelectTyped(two)])?);
     Ok(())
 }
 
-/// A body whose one block holds this code, with this instruction before and a drop after.
-fn holding(alloc: Global, before: Instr, held: Vec<Instr>, block: Instr) -> Result<Module, Fail> {
+#[test]
+fn branches_go_to_labels_that_are_there(rt: HostRuntime) -> Result<(), Fail> {
+    let alloc = rt.alloc();
+    assert!(rt; !typed(alloc, [Instr::Drop])?);
+    assert!(rt; !typed(alloc, [Instr::Br(1)])?);
+    assert!(rt; !typed(alloc, [Instr::BrIf(0)])?);
+    assert!(rt; typed(alloc, [Instr::I32Const(0), Instr::BrIf(0)])?);
+    Ok(())
+}
+
+/// A module whose body has an `if` of this type, with these two sides, and drops what it gives.
+fn sides<const N: usize>(
+    alloc: Global,
+    ty: BlockType,
+    first: [Instr; N],
+    numbers: (u32, u32),
+    last: Instr,
+) -> Result<Module, Fail> {
     let mut it = empty(alloc);
     add_type(alloc, &mut it, &[], &[])?;
     add_func(alloc, &mut it, 0, &[], 2)?;
-    add_block(&mut it, held)?;
-    add_block(&mut it, vec![in alloc; Instr::Nop]?)?;
-    add_block(&mut it, vec![in alloc; before, block, Instr::Drop]?)?;
+    add_block(alloc, &mut it, first)?;
+    add_block(alloc, &mut it, [Instr::Nop])?;
+    let branch = Instr::If(ty, BlockId(numbers.0), BlockId(numbers.1));
+    add_block(alloc, &mut it, [Instr::I32Const(0), branch, last])?;
     Ok(it)
 }
 
 #[test]
 fn both_sides_of_an_if_have_its_type(rt: HostRuntime) -> Result<(), Fail> {
     let alloc = rt.alloc();
-    // an `if` without `else` gives what it takes
-    let uneven = Instr::If(BlockType::One(ValType::I32), BlockId(0), BlockId(1));
-    let it = holding(
-        alloc,
-        Instr::I32Const(0),
-        vec![in alloc; Instr::I32Const(0)]?,
-        uneven,
-    )?;
-    assert!(rt; !is_valid(alloc, it));
-    let mut even = empty(alloc);
-    add_type(alloc, &mut even, &[], &[])?;
-    add_func(alloc, &mut even, 0, &[], 2)?;
-    add_block(&mut even, vec![in alloc; Instr::Nop]?)?;
-    add_block(&mut even, vec![in alloc; Instr::Br(0)]?)?;
-    let branch = Instr::If(BlockType::Empty, BlockId(0), BlockId(1));
-    add_block(&mut even, vec![in alloc; Instr::I32Const(0), branch]?)?;
-    assert!(rt; is_valid(alloc, even));
+    let one = BlockType::One(ValType::I32);
+    let uneven = sides(alloc, one, [Instr::I32Const(0)], (0, 1), Instr::Drop)?;
+    let blame = Some(Invalid::Invalid { function: Some(0) });
+    assert_eq!(rt; refusal(alloc, uneven), blame);
+    let even = sides(alloc, BlockType::Empty, [Instr::Br(0)], (0, 1), Instr::Nop)?;
+    assert_eq!(rt; refusal(alloc, even), None);
     Ok(())
 }
 
 #[test]
 fn blocks_are_numbered_as_they_end(rt: HostRuntime) -> Result<(), Fail> {
     let alloc = rt.alloc();
-    let wrong = Instr::If(BlockType::Empty, BlockId(1), BlockId(0));
-    let it = holding(
-        alloc,
-        Instr::I32Const(0),
-        vec![in alloc; Instr::Nop]?,
-        wrong,
-    )?;
-    assert_eq!(rt; refusal(alloc, it), NOWHERE);
+    let wrong = sides(alloc, BlockType::Empty, [Instr::Nop], (1, 0), Instr::Nop)?;
+    assert_eq!(rt; refusal(alloc, wrong), NOWHERE);
     // a block that nothing holds
-    let mut loose = body(alloc, &[], &[], vec![in alloc; Instr::Nop]?)?;
-    add_block(&mut loose, vec![in alloc; Instr::Nop]?)?;
+    let mut loose = body(alloc, &[], &[], [Instr::Nop])?;
+    add_block(alloc, &mut loose, [Instr::Nop])?;
     assert_eq!(rt; refusal(alloc, loose), NOWHERE);
     // a block in itself
-    let own = Instr::Block(BlockType::Empty, BlockId(0));
-    let it = body(alloc, &[], &[], vec![in alloc; own]?)?;
-    assert_eq!(rt; refusal(alloc, it), NOWHERE);
+    let own = body(
+        alloc,
+        &[],
+        &[],
+        [Instr::Block(BlockType::Empty, BlockId(0))],
+    )?;
+    assert_eq!(rt; refusal(alloc, own), NOWHERE);
     Ok(())
 }
