@@ -1,20 +1,9 @@
 //! Which modules are of the first form.
 
 ghost use Rattle.std.specs.Prelude.{◌≡◌};
-ghost use Rattle.wasm_syntax.specs.Blocks.{block_of};
 ghost use Rattle.wasm_machine.specs.Small as form;
 
-use wasm_syntax::{BlockId, Export, ExportDesc, Func, FuncType, Instr, Module, ValType};
-
-/// The instructions of a block, lent. One that isn't there has none.
-pub(crate) fn block(module: &Module, id: BlockId) -> &[Instr]
-    ensures { result.now ≡ block_of «module».now id }
-{
-    match module.blocks.as_slice().get(id.0 as usize) {
-        Some(block) => block.as_slice(),
-        None => &[],
-    }
-}
+use wasm_syntax::{Export, ExportDesc, Func, FuncType, Instr, Module, ValType};
 
 fn is_i32(ty: ValType) -> bool
     ensures { result ≡ form.is_i32 ty }
@@ -83,7 +72,7 @@ fn are_small_instrs(body: &[Instr]) -> bool
 fn is_small_func(module: &Module, func: &Func) -> bool
     ensures { result ≡ form.is_small_func «module».now func.now }
 {
-    are_i32_runs(func.locals.as_slice()) && are_small_instrs(block(module, func.body))
+    are_i32_runs(func.locals.as_slice()) && are_small_instrs(module.code(func.body))
 }
 
 fn are_small_types(types: &[FuncType]) -> bool

@@ -5,7 +5,6 @@ ghost use Rattle.wasm_valid.specs.ModuleRules.{is_typed_module};
 ghost use Rattle.wasm_machine.specs.Small.{is_small_form, small_result};
 ghost use Rattle.wasm_machine.specs.Invocations.{TakesArguments, zeros_of, UnitsOf};
 
-use crate::form::block;
 use crate::frame::Frame;
 use std::alloc::{AllocError, Global};
 use wasm_syntax::{Func, Module};
@@ -53,5 +52,5 @@ pub fn run_small(
         locals,
         operands: Vec::new(alloc),
     };
-    frame.run(block(module, func.body), left)
+    frame.run(module.code(func.body), left)
 }

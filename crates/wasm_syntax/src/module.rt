@@ -113,4 +113,14 @@ impl Module {
         let blocks = self.blocks.as_slice();
         blocks[id.0 as usize].as_slice()
     }
+
+    /// The instructions of a block, lent, for a number of which it isn't known that it has a block: one without a block has none.
+    pub fn code(&self, id: BlockId) -> &[Instr]
+        ensures { result.now ≡ block_of self.now id }
+    {
+        match self.blocks.as_slice().get(id.0 as usize) {
+            Some(code) => code.as_slice(),
+            None => &[],
+        }
+    }
 }

@@ -45,6 +45,8 @@ fn a_block_is_lent_by_its_number(rt: HostRuntime) -> Result<(), Fail> {
     assert_eq!(rt; inner.len(), 2);
     assert!(rt; matches!(&inner[0], Instr::I32Const(7)));
     assert!(rt; matches!(&inner[1], Instr::Drop));
+    assert_eq!(rt; module.code(BlockId(0)).len(), 2);
+    assert!(rt; module.code(BlockId(2)).is_empty());
     let body = module.block(BlockId(1));
     assert_eq!(rt; body.len(), 1);
     assert!(rt; matches!(&body[0], Instr::Block(crate::BlockType::Empty, BlockId(0))));

@@ -4,7 +4,6 @@ ghost use Rattle.std.specs.Prelude.{◌≡◌, ◌++◌, map, flat_map, IfOk, On
 ghost use Rattle.wasm_valid.specs.ModuleRules.{nested_in, outermost, offset_of, is_numbered};
 
 use crate::sorts::instr_nesting;
-use crate::spaces::code_of;
 use std::alloc::{AllocError, Global};
 use wasm_syntax::{BlockId, Data, Elem, Func, GlobalDef, Instr, Mode, Module};
 
@@ -96,7 +95,7 @@ pub fn has_numbering(alloc: Global, module: &Module) -> Result<bool, AllocError>
         if id.0 as usize != left {
             return Ok(false);
         }
-        add_nested(&mut pending, code_of(module, id))?;
+        add_nested(&mut pending, module.code(id))?;
     }
     Ok(pending.is_empty())
 }

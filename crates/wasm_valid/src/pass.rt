@@ -15,7 +15,7 @@ use crate::locals::Locals;
 use crate::opens::{Open, Opens, Outer};
 use crate::operands::OperandList;
 use crate::sorts::{Nesting, instr_nesting};
-use crate::spaces::{Spaces, code_of};
+use crate::spaces::Spaces;
 use crate::types::{Types, types_of};
 use std::alloc::{AllocError, Global};
 use wasm_syntax::{BlockId, BlockType, Instr, Module, ValType};
@@ -261,7 +261,7 @@ impl Pass {
         ensures moves { IfOk result (λ step. Moves «module».now (record { locals = locals.now; results = types_in «module».now results }) (place_of self.old.operands self.old.opens) self.old.highest step (place_of self.new.operands self.new.opens) self.new.highest) }
     {
         self.note();
-        let code = code_of(module, self.opens.top.block);
+        let code = module.code(self.opens.top.block);
         let at = self.opens.top.at;
         if at >= code.len() {
             let step = self.end_block(module)?;

@@ -7,7 +7,7 @@ ghost use Rattle.wasm_valid.specs.Views.{IsSpaces};
 
 use crate::flat::type_of_func;
 use crate::signature::table_type;
-use crate::spaces::{Spaces, code_of};
+use crate::spaces::Spaces;
 use crate::types::{is_reference_type, same_types};
 use std::alloc::{AllocError, Global};
 use std::collections::HashSet;
@@ -154,7 +154,7 @@ fn is_fine_constant(module: &Module, spaces: &Spaces, ty: ValType, id: BlockId) 
     requires { IsSpaces «module».now spaces.now }
     ensures { result ≡ is_constant «module».now ty id }
 {
-    match code_of(module, id) {
+    match module.code(id) {
         [instr] => has_value_type(ty, constant_value(module, spaces, instr)),
         _ => false,
     }

@@ -103,16 +103,6 @@ fn add_globals(list: &mut Vec<GlobalType>, globals: &[GlobalDef]) -> Result<(), 
     Ok(())
 }
 
-/// The instructions of a block, or none where there is no such block.
-pub fn code_of(module: &Module, id: BlockId) -> &[Instr]
-    ensures { result.now ≡ block_of «module».now id }
-{
-    match module.blocks.get(id.0 as usize) {
-        Some(code) => code.as_slice(),
-        None => &[],
-    }
-}
-
 fn declare(flags: &mut [bool], index: u32)
     ensures { flags.new ≡ slice_set flags.old index true }
 {
@@ -145,7 +135,7 @@ fn mark_globals(flags: &mut [bool], module: &Module, globals: &[GlobalDef])
     ensures { Marks flags.old flags.new (λ x. list_any (λ g. list_any (refers_to x) (block_of «module».now g.init)) globals.now) }
 {
     for global in globals {
-        mark_code(flags, code_of(module, global.init));
+        mark_code(flags, module.code(global.init));
     }
 }
 
@@ -153,7 +143,7 @@ fn mark_items(flags: &mut [bool], module: &Module, items: &[BlockId])
     ensures { Marks flags.old flags.new (λ x. list_any (λ item. list_any (refers_to x) (block_of «module».now item)) items.now) }
 {
     for item in items {
-        mark_code(flags, code_of(module, *item));
+        mark_code(flags, module.code(*item));
     }
 }
 

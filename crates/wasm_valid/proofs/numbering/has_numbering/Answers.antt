@@ -16,7 +16,7 @@ returns-then-id-left c =
 pub loop-left-preserved : goal.loop-left-preserved
 loop-left-preserved c =
     right_number c.args.«module».now c.loop-left.left c.loop-left.pending.items c.pop.new.self.items c.in-Some.id c.loop-left-test.true c.loop-left.invariant c.in-Some.ensures.items c.if-id-left.false
-    c.add_nested.new.pending.items (c.in_ok-add_nested.ensures ∙ ap (λ (code : List Instr). c.pop.new.self.items ++ flat_map nested_in code) c.code_of.ensures)
+    c.add_nested.new.pending.items (c.in_ok-add_nested.ensures ∙ ap (λ (code : List Instr). c.pop.new.self.items ++ flat_map nested_in code) c.code.ensures)
 
 pub returns : goal.returns
 returns c = found_or_not c.args.«module».now c.loop-left.left c.loop-left.pending.items _ c.is_empty.result c.loop-left-test.false c.loop-left.invariant c.loop-left.pending.ok.0 c.is_empty.ensures

@@ -5,7 +5,7 @@ use Rattle.wasm_valid.proofs.pass.Pass.step.Goals as goal
 pub open_block-requires : goal.open_block-requires
 open_block-requires c = record {
   place = place_after_note _ _ _ _ c.note.ensures.operands c.note.ensures.opens c.requires.place;
-  at = (c.index-code-at.result, rest_begins c.args.«module».now c.note.new.self.opens.top c.code_of-code.result.now c.index-code-at.result c.code_of-code.ensures c.if-at-code.false c.index-code-at.is, sym c.instr_nesting.ensures ∙ c.in-Some.is);
+  at = (c.index-code-at.result, rest_begins c.args.«module».now c.note.new.self.opens.top c.code-code.result.now c.index-code-at.result c.code-code.ensures c.if-at-code.false c.index-code-at.is, sym c.instr_nesting.ensures ∙ c.in-Some.is);
   fits = omega (arith, c.if-at-code.false);
   counted = counted_after_note _ _ _ _ c.note.ensures.operands c.note.ensures.highest;
 }
@@ -13,7 +13,7 @@ open_block-requires c = record {
 pub end_block-requires : goal.end_block-requires
 end_block-requires c = record {
   place = place_after_note _ _ _ _ c.note.ensures.operands c.note.ensures.opens c.requires.place;
-  at = rest_ends c.args.«module».now c.note.new.self.opens.top c.code_of-code.result.now c.code_of-code.ensures c.if-at-code.true;
+  at = rest_ends c.args.«module».now c.note.new.self.opens.top c.code-code.result.now c.code-code.ensures c.if-at-code.true;
   counted = counted_after_note _ _ _ _ c.note.ensures.operands c.note.ensures.highest;
 }
 
@@ -21,7 +21,7 @@ pub go_flat-requires : goal.go_flat-requires
 go_flat-requires c = record {
   spaces = c.requires.spaces;
   place = place_after_note _ _ _ _ c.note.ensures.operands c.note.ensures.opens c.requires.place;
-  at = rest_begins c.args.«module».now c.note.new.self.opens.top c.code_of-code.result.now c.index-code-at.result c.code_of-code.ensures c.if-at-code.false c.index-code-at.is;
+  at = rest_begins c.args.«module».now c.note.new.self.opens.top c.code-code.result.now c.index-code-at.result c.code-code.ensures c.if-at-code.false c.index-code-at.is;
   flat = sym c.instr_nesting.ensures ∙ c.in-None.is;
   fits = omega (arith, c.if-at-code.false);
   counted = counted_after_note _ _ _ _ c.note.ensures.operands c.note.ensures.highest;
