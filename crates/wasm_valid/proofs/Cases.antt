@@ -1,15 +1,13 @@
 -- Worked cases of the definitions, each by computation.
 use Rattle.std.proofs.Common.{◌≡◌, ℕ, true, false, [], ◌∷◌, List, Some, None, refl}
 use Rattle.wasm_syntax.specs.declared.types.ValType.{ValType}
-use Rattle.wasm_syntax.specs.declared.types.ValType.TheVariants.{I32, I64, FuncRef, ExternRef}
+use Rattle.wasm_syntax.specs.declared.types.ValType.TheVariants.{I32, I64, FuncRef}
 use Rattle.wasm_syntax.specs.declared.types.FuncType.{FuncType}
 use Rattle.wasm_syntax.specs.declared.instructions.BlockId.{BlockId}
-use Rattle.wasm_syntax.specs.declared.instructions.BlockType.TheVariants.{Empty, One, Index}
+use Rattle.wasm_syntax.specs.declared.instructions.BlockType.TheVariants.{Empty, One}
 use Rattle.wasm_syntax.specs.declared.instructions.Instr.{Instr}
-use Rattle.wasm_syntax.specs.declared.instructions.Instr.TheVariants.{Unreachable, Nop, Block, Loop, If, Br, BrIf, BrTable, Return, Drop, Select, LocalGet, LocalSet, I32Const, I64Const, I32Add, I32Load, RefIsNull, RefNull, RefFunc}
+use Rattle.wasm_syntax.specs.declared.instructions.Instr.TheVariants.{Unreachable, Nop, Block, If, Br, BrTable, Drop, Select, LocalGet, I32Const, I64Const, I32Add, RefIsNull, RefNull, RefFunc}
 use Rattle.wasm_syntax.specs.declared.module.ExportDesc.TheVariants as e
-use Rattle.wasm_syntax.specs.declared.module.Export.{Export}
-use Rattle.wasm_syntax.specs.declared.module.Func.{Func}
 use Rattle.wasm_syntax.specs.declared.module.Module.{Module}
 use Rattle.wasm_valid.specs.Typing.{most_nested, most_locals, is_typed_body, body_height}
 use Rattle.wasm_valid.specs.ModuleRules.{is_numbered, is_framed, is_typed_module, refused_function, names_differ}

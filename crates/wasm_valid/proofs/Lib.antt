@@ -1,7 +1,7 @@
 mod Cases
 pub mod PileLaws
-pub mod SpaceLaws
 pub mod LocalLaws
+pub mod LabelLaws
 pub mod PlaceLaws
 pub mod NumberLaws
 pub mod NameLaws

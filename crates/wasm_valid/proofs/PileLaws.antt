@@ -1,11 +1,11 @@
 -- Laws of lists whose topmost element is the last one.
-use Rattle.std.proofs.Common.{◌≡◌, ℕ, zero, suc, ◌+◌, ◌-◌, ◌<◌, ◌≤◌, Bool, true, false, List, [], ◌∷◌, ◌++◌, Option, Some, None, length, reverse, map, take, drop, get_or, refl, sym, ◌∙◌, ap, subst, is_some, arith, min, append_assoc, nat_eq, eq-eqb}
+use Rattle.std.proofs.Common.{◌≡◌, ℕ, ◌+◌, ◌-◌, ◌<◌, ◌≤◌, Bool, true, false, List, [], ◌∷◌, ◌++◌, Option, Some, length, reverse, take, drop, get_or, refl, sym, ◌∙◌, ap, subst, is_some, arith, nat_eq, eq-eqb}
 use Rattle.std.proofs.lemmas.Bool.{ne_eqb}
-use Rattle.std.proofs.lemmas.List.{take_more, reverse-append, length-reverse, length-append, length-take, length-take-le, length-drop, drop-append-le, take-append-drop, take_at, drop_at, take_all as take_whole, drop_all, append-nil, nil_from_length, map-append}
+use Rattle.std.proofs.lemmas.List.{take_more, reverse-append, length-reverse, length-take, length-take-le, length-drop, drop-append-le, take-append-drop, take_at, drop_at, take_all as take_whole, drop_all}
 use Rattle.wasm_syntax.specs.declared.types.ValType.{ValType}
 use Rattle.wasm_valid.specs.Spaces.{when, then_}
-use Rattle.wasm_valid.specs.Operands.{Operands, take_any, take_one, take_all, put, fits, anything, is_empty}
-use Rattle.wasm_valid.specs.Piles.{Pile, pile_of, Becomes}
+use Rattle.wasm_valid.specs.Operands.{take_all, fits, anything, is_empty}
+use Rattle.wasm_valid.specs.Piles.{Pile, pile_of}
 
 -- one more element on top
 pub reverse_more : {X : Type 0} (xs : List X) (n : ℕ) (d : X) → 0 < n → n ≤ length xs → reverse (take n xs) ≡ get_or xs (n - 1) d ∷ reverse (take (n - 1) xs)

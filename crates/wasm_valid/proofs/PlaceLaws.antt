@@ -1,11 +1,10 @@
 -- Laws of the places of a body.
-use Rattle.std.proofs.Common.{◌≡◌, ℕ, zero, suc, ◌+◌, ◌-◌, ◌*◌, ◌<◌, ◌≤◌, max, Bool, true, false, ◌&&◌, List, [], ◌∷◌, ◌++◌, Option, Some, None, length, reverse, map, take, drop, get_or, refl, sym, ◌∙◌, ap, subst, arith, is_some}
+use Rattle.std.proofs.Common.{◌≡◌, ℕ, zero, suc, ◌+◌, ◌-◌, ◌<◌, ◌≤◌, max, Bool, true, false, ◌&&◌, List, [], ◌∷◌, ◌++◌, Option, Some, None, length, reverse, map, take, drop, get_or, refl, sym, ◌∙◌, ap, subst, arith}
 use Rattle.std.proofs.Math.Nat.{sub-zero}
 use Rattle.std.specs.Prelude.{slice_get}
-use Rattle.std.proofs.lemmas.List.{get_or-reverse, length-reverse, drop_more, drop_all, take_at, drop_at, length-append, length-drop, length-map, length-take-le, reverse-append, append-nil}
+use Rattle.std.proofs.lemmas.List.{get_or-reverse, length-reverse, drop_more, drop_all, take_at, drop_at, length-append, length-drop, length-map, length-take-le, reverse-append}
 use Rattle.wasm_syntax.specs.Blocks.{block_of}
 use Rattle.wasm_syntax.specs.declared.types.ValType.{ValType}
-use Rattle.wasm_syntax.specs.declared.types.ValType.TheVariants.{I32}
 use Rattle.wasm_syntax.specs.declared.types.FuncType.{FuncType}
 use Rattle.wasm_syntax.specs.declared.instructions.BlockId.{BlockId}
 use Rattle.wasm_syntax.specs.declared.instructions.Instr.{Instr}
@@ -20,12 +19,12 @@ use Rattle.wasm_valid.specs.declared.types.Types.{Types}
 use Rattle.wasm_valid.specs.declared.types.Types.TheVariants as y
 use Rattle.wasm_valid.specs.Spaces.{when, then_, block_type}
 use Rattle.wasm_valid.specs.Sorts.{nesting_of}
-use Rattle.wasm_valid.specs.Operands.{Operands, exactly, put, take_one, take_all, exchange, ends_with, is_spent, is_empty}
+use Rattle.wasm_valid.specs.Operands.{Operands, exactly, put, take_all, ends_with, is_spent}
 use Rattle.wasm_valid.specs.Signatures.{types_in}
 use Rattle.wasm_valid.specs.declared.opens.Opens.{Opens}
 use Rattle.wasm_valid.specs.Piles.{Becomes, Pile}
-use Rattle.wasm_valid.specs.Typing.{Blocks, Heights, by_nesting, Context, after, after_all, after_flat, after_nested, holding, tested, label_of, with_label, calls, is_block, most_nested, other_is, height_all, height_on, height_within, block_height, other_height, count_at}
-use Rattle.wasm_valid.specs.Places.{Goes, Moves, Closes, ClosesTo, BodyIs, step_of, start_of, frame_of, Reached, NestsAt, next_open, label_by, opened_by, place_of, Frame, Place, IsPlace, IsStacked, Steps, labels_in, context_in, type_in, depth_in, rest_of, rest_typed, own_of, under_of, outer_typed, left_typed, rest_height, outer_height, left_height, code_work, nested_work, other_work, block_work, rest_work, outer_work, left_work}
+use Rattle.wasm_valid.specs.Typing.{Blocks, Heights, by_nesting, Context, after, after_all, after_flat, holding, tested, label_of, with_label, is_block, most_nested, other_is, height_all, height_on, height_within, block_height, other_height, count_at}
+use Rattle.wasm_valid.specs.Places.{Goes, Moves, Closes, step_of, start_of, Reached, NestsAt, next_open, label_by, opened_by, place_of, Frame, Place, IsPlace, IsStacked, Steps, labels_in, context_in, type_in, depth_in, rest_of, own_of, under_of, outer_typed, left_typed, rest_height, outer_height, left_height, code_work, nested_work, other_work, block_work, left_work}
 
 pub slice_get-map : {X Y : Type 0} (f : X → Y) (xs : List X) (k : ℕ) (d : X) → k < length xs → slice_get (map f xs) k ≡ Some (f (get_or xs k d))
 slice_get-map f [] k d h = absurd (omega arith)

@@ -1,5 +1,5 @@
 -- Laws of validation.
-use Rattle.std.proofs.Common.{◌≡◌, ℕ, suc, ◌+◌, ◌<◌, ◌≤◌, ◌^◌, Bool, true, false, ◌&&◌, List, [], ◌∷◌, ◌++◌, Option, Some, None, length, take, drop, map, get_or, refl, sym, ◌∙◌, ap, subst, arith, nat_le, if◌then◌else◌}
+use Rattle.std.proofs.Common.{◌≡◌, ℕ, suc, ◌+◌, ◌<◌, ◌≤◌, Bool, true, false, ◌&&◌, List, [], ◌∷◌, ◌++◌, Option, Some, None, length, take, drop, map, get_or, sym, ◌∙◌, ap, subst, arith, nat_le, if◌then◌else◌}
 use Rattle.std.specs.Prelude.{slice_get, is_some, IfSome, replicate, flat_map}
 use Rattle.std.specs.List.{list_all}
 use Rattle.std.proofs.lemmas.List.{drop_more, drop_all, map_more, take_all as take_whole}
@@ -11,9 +11,8 @@ use Rattle.wasm_valid.specs.declared.types.Types.TheVariants as y
 use Rattle.wasm_valid.specs.Spaces.{when}
 use Rattle.wasm_valid.specs.Signatures.{types_in, results_in}
 use Rattle.wasm_valid.specs.Typing.{Context, is_block, block_height, most_nested, most_locals, locals_of, few_locals, typed_within, typed_as, height_as, body_context, body_type, count_locals, is_typed_body, body_height}
-use Rattle.wasm_valid.specs.ModuleRules.{is_numbered, obeys_rules, is_vector, is_framed, is_typed_module, first_untyped, refused_function}
+use Rattle.wasm_valid.specs.ModuleRules.{is_numbered, obeys_rules, is_framed, is_typed_module, first_untyped, refused_function}
 use Rattle.wasm_valid.specs.Places.{BodyIs}
-use Rattle.wasm_valid.specs.Valid.{BodiesAre}
 
 abbrev of_results : List ValType → List ValType → Context
 of_results locals rs = record { locals = locals; labels = rs ∷ []; results = rs }

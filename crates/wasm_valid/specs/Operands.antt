@@ -1,5 +1,5 @@
 -- The types of the operands of a block (WebAssembly Core 2.0, section 3.3 and the appendix on its algorithm).
-use Rattle.std.specs.Prelude.{ℕ, Bool, true, false, not, ◌&&◌, List, [], ◌∷◌, ◌++◌, Option, Some, None, map, reverse}
+use Rattle.std.specs.Prelude.{Bool, true, false, not, ◌&&◌, List, [], ◌∷◌, ◌++◌, Option, Some, None, map, reverse}
 use Rattle.wasm_syntax.specs.declared.types.ValType.{ValType}
 use Rattle.wasm_valid.specs.Spaces.{when, then_, same_type, is_reference}
 

@@ -1,5 +1,5 @@
 -- The types of instructions as the code keeps them, for private contracts.
-use Rattle.std.specs.Prelude.{ℕ, List, [], ◌∷◌, Option, Some, None, slice_get, option_to_list}
+use Rattle.std.specs.Prelude.{List, [], ◌∷◌, Option, Some, None, slice_get, option_to_list}
 use Rattle.wasm_syntax.specs.declared.types.ValType.{ValType}
 use Rattle.wasm_syntax.specs.declared.types.FuncType.{FuncType}
 use Rattle.wasm_syntax.specs.declared.module.Module.{Module}

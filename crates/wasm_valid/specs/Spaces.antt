@@ -1,5 +1,5 @@
 -- The index spaces of a module (WebAssembly Core 2.0, sections 2.5.1 and 3.1.1): imports come first, each kind in its own order.
-use Rattle.std.specs.Prelude.{ℕ, ◌<◌, Bool, true, false, not, ◌==◌, nat_lt, nat_le, ◌||◌, List, [], ◌∷◌, ◌++◌, Option, Some, None, slice_get, length, map, filter_map, is_some}
+use Rattle.std.specs.Prelude.{ℕ, Bool, true, false, ◌==◌, nat_lt, ◌||◌, List, [], ◌∷◌, ◌++◌, Option, Some, None, slice_get, length, map, filter_map}
 use Rattle.std.specs.List.{list_any}
 use Rattle.wasm_syntax.specs.Blocks.{block_of}
 use Rattle.wasm_syntax.specs.declared.types.ValType.{ValType}
@@ -8,7 +8,6 @@ use Rattle.wasm_syntax.specs.declared.types.FuncType.{FuncType}
 use Rattle.wasm_syntax.specs.declared.types.Limit.{Limit}
 use Rattle.wasm_syntax.specs.declared.types.TableType.{TableType}
 use Rattle.wasm_syntax.specs.declared.types.GlobalType.{GlobalType}
-use Rattle.wasm_syntax.specs.declared.instructions.BlockId.{BlockId}
 use Rattle.wasm_syntax.specs.declared.instructions.BlockType.{BlockType}
 use Rattle.wasm_syntax.specs.declared.instructions.BlockType.TheVariants as b
 use Rattle.wasm_syntax.specs.declared.instructions.Instr.{Instr}

@@ -7,7 +7,6 @@ use Rattle.wasm_syntax.specs.declared.types.FuncType.{FuncType}
 use Rattle.wasm_syntax.specs.declared.types.TableType.{TableType}
 use Rattle.wasm_syntax.specs.declared.types.GlobalType.{GlobalType}
 use Rattle.wasm_syntax.specs.declared.instructions.BlockId.{BlockId}
-use Rattle.wasm_syntax.specs.declared.instructions.BlockType.{BlockType}
 use Rattle.wasm_syntax.specs.declared.instructions.Instr.{Instr}
 use Rattle.wasm_syntax.specs.declared.instructions.Instr.TheVariants as i
 use Rattle.wasm_syntax.specs.declared.module.Func.{Func}
@@ -18,7 +17,7 @@ use Rattle.wasm_valid.specs.declared.sorts.Sort.TheVariants as s
 use Rattle.wasm_valid.specs.declared.sorts.Nesting.{Nesting}
 use Rattle.wasm_valid.specs.Spaces.{when, then_, func_type, tables_of, globals_of, block_type, has_memory, same_type, is_reference, is_declared}
 use Rattle.wasm_valid.specs.Sorts.{sort_of, nesting_of}
-use Rattle.wasm_valid.specs.Operands.{Operands, Taken, anything, exactly, take_any, take_one, take_all, put, exchange, leaves, select_of, is_spent, ends_with}
+use Rattle.wasm_valid.specs.Operands.{Operands, anything, exactly, take_any, take_one, take_all, put, exchange, leaves, select_of, ends_with}
 
 -- what a place of a body sees beside its module: the locals, the labels with their types, the innermost first, and the results
 pub record Context : Type 0 where
@@ -82,11 +81,14 @@ with_label ts c = record c { labels = ts ∷ c.labels }
 abbrev pub calls : FuncType → Operands → Option Operands
 calls g s = exchange (reverse g.params) (reverse g.results) s
 
--- each of these labels has as many types as are asked for, and they fit the topmost operands
+-- a label has as many types as are asked for, and they fit the topmost operands
+abbrev pub label_fits : List (List ValType) → ℕ → Operands → ℕ → Bool
+label_fits labels n s l = is_some (then_ (slice_get labels l) (λ ts. when (length ts == n) (take_all (reverse ts) s)))
+
+-- each of these labels fits so
 abbrev pub all_fit : List (List ValType) → ℕ → List ℕ → Operands → Bool
 all_fit labels n [] s = true
-all_fit labels n (l ∷ ls) s =
-    is_some (then_ (slice_get labels l) (λ ts. when (length ts == n) (take_all (reverse ts) s))) && all_fit labels n ls s
+all_fit labels n (l ∷ ls) s = label_fits labels n s l && all_fit labels n ls s
 
 -- 3.3.8: a choice between labels
 abbrev pub after_table : List (List ValType) → List ℕ → List ValType → Operands → Option Operands

@@ -1,5 +1,5 @@
 -- What validation answers.
-use Rattle.std.specs.Prelude.{◌≡◌, ℕ, Bool, true, false, List, Option, Some, None, map}
+use Rattle.std.specs.Prelude.{◌≡◌, ℕ, true, false, List, Option, Some, None, map}
 use Rattle.std.specs.List.{list_all}
 use Rattle.wasm_syntax.specs.declared.module.Module.{Module}
 use Rattle.wasm_valid.specs.declared.valid.Invalid.TheVariants as answers

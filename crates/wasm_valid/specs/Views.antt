@@ -1,5 +1,6 @@
 -- What the code keeps of a module, for private contracts.
-use Rattle.std.specs.Prelude.{◌≡◌, ℕ, ◌<◌, Bool, false, ◌||◌, List, length, slice_index_or}
+use Rattle.std.specs.Prelude.{◌≡◌, ℕ, ◌+◌, ◌<◌, Bool, true, false, ◌||◌, List, [], ◌∷◌, length, slice_index_or}
+use Rattle.wasm_syntax.specs.declared.types.ValType.{ValType}
 use Rattle.wasm_syntax.specs.declared.module.Module.{Module}
 use Rattle.wasm_valid.specs.declared.spaces.Spaces.{Spaces}
 use Rattle.wasm_valid.specs.Spaces.{funcs_of, tables_of, globals_of, imported_globals_of, mems_of, is_declared}
@@ -18,3 +19,12 @@ pub record IsSpaces (m : Module) (spaces : Spaces) : Type 0 where
   pub mems : spaces.mems.items ≡ mems_of m
   pub declared_count : length spaces.declared.items ≡ length (funcs_of m)
   pub declared : (x : ℕ) → x < length (funcs_of m) → slice_index_or spaces.declared.items x false ≡ is_declared m x
+
+-- how many locals there are up to the end of each run, n of them before the first one
+abbrev pub ends_from : ℕ → List (ℕ × ValType) → List ℕ
+ends_from n [] = []
+ends_from n (run ∷ runs) = (n + run.0) ∷ ends_from (n + run.0) runs
+
+-- each label that is marked passes a test
+abbrev pub AllSeen : List Bool → (ℕ → Bool) → Type 0
+AllSeen seen test = (x : ℕ) → slice_index_or seen x false ≡ true → test x ≡ true

@@ -1,6 +1,6 @@
 //! Instructions that hold no blocks.
 
-ghost use Rattle.std.specs.Prelude.{◌≡◌, ◌∷◌, [], reverse, slice_get, length, is_some, ◌==◌, IfOk};
+ghost use Rattle.std.specs.Prelude.{◌≡◌, ◌∷◌, [], false, replicate, reverse, slice_get, slice_index_or, length, is_some, ◌==◌, IfOk};
 ghost use Rattle.std.specs.Option.{option_copied};
 ghost use Rattle.wasm_valid.specs.Spaces.{then_, when, func_type, tables_of};
 ghost use Rattle.wasm_valid.specs.Operands.{take_one, take_any, take_all, exchange, leaves, put, select_of, is_number, common};
@@ -11,11 +11,11 @@ ghost use Rattle.wasm_valid.specs.Places.{labels_in, context_in};
 ghost use Rattle.wasm_valid.specs.Views.{IsSpaces};
 
 use crate::locals::Locals;
-use crate::opens::Opens;
+use crate::opens::{MOST_LABELS, Opens};
 use crate::operands::{OperandList, type_fits};
 use crate::signature::{sort_signature, table_type};
 use crate::sorts::instr_sort;
-use crate::spaces::Spaces;
+use crate::spaces::{Spaces, set_flag};
 use crate::types::{Types, is_reference_type, same_types, types_of};
 use std::alloc::AllocError;
 use wasm_syntax::{FuncType, Instr, Module, TableType, ValType};
@@ -54,6 +54,22 @@ fn fits_label(operands: &OperandList, label: Option<&[ValType]>, count: usize) -
     }
 }
 
+fn none_seen() -> [bool; MOST_LABELS]
+    ensures { result ≡ replicate 257 false }
+{
+    [false; MOST_LABELS]
+}
+
+fn is_seen(seen: &[bool], index: u32) -> bool
+    ensures { result ≡ slice_index_or seen.now index false }
+{
+    match seen.get(index as usize) {
+        Some(flag) => *flag,
+        None => false,
+    }
+}
+
+/// Whether each of these labels fits. None is compared twice, since a table may have many labels and a label many types.
 fn fits_labels(
     operands: &OperandList,
     opens: &Opens,
@@ -63,9 +79,13 @@ fn fits_labels(
 ) -> bool
     ensures { result ≡ all_fit (labels_in «module».now opens.now.top (reverse opens.now.outer.items)) count labels.now operands.now.own }
 {
+    let mut seen = none_seen();
     for index in labels {
-        if !fits_label(operands, opens.label(module, *index), count) {
-            return false;
+        if !is_seen(&seen, *index) {
+            if !fits_label(operands, opens.label(module, *index), count) {
+                return false;
+            }
+            set_flag(&mut seen, *index);
         }
     }
     true

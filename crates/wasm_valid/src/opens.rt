@@ -8,6 +8,12 @@ use crate::operands::Saved;
 use crate::types::{Types, types_of};
 use wasm_syntax::{BlockId, Module, ValType};
 
+/// The blocks that may be nested in one another in a body.
+pub const MOST_NESTED: usize = 256;
+
+/// The labels that there may be at a place: those of the blocks, and the body's.
+pub const MOST_LABELS: usize = MOST_NESTED + 1;
+
 /// An open block: its next instruction, its label and its type.
 #[derive(Clone, Copy)]
 pub struct Open {

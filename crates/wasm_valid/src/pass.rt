@@ -12,16 +12,13 @@ ghost use Rattle.wasm_valid.specs.Views.{IsSpaces};
 
 use crate::flat::pass_flat;
 use crate::locals::Locals;
-use crate::opens::{Open, Opens, Outer};
+use crate::opens::{MOST_NESTED, Open, Opens, Outer};
 use crate::operands::OperandList;
 use crate::sorts::{Nesting, instr_nesting};
 use crate::spaces::Spaces;
 use crate::types::{Types, types_of};
 use std::alloc::{AllocError, Global};
 use wasm_syntax::{BlockId, BlockType, Instr, Module, ValType};
-
-/// The blocks that may be nested in one another in a body.
-const MOST_NESTED: usize = 256;
 
 /// What a step came to.
 #[derive(Clone, Copy)]

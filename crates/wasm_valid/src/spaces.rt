@@ -103,7 +103,8 @@ fn add_globals(list: &mut Vec<GlobalType>, globals: &[GlobalDef]) -> Result<(), 
     Ok(())
 }
 
-fn declare(flags: &mut [bool], index: u32)
+/// Sets the flag with this index, where there is one.
+pub fn set_flag(flags: &mut [bool], index: u32)
     ensures { flags.new ≡ slice_set flags.old index true }
 {
     if (index as usize) < flags.len() {
@@ -116,7 +117,7 @@ fn mark_exports(flags: &mut [bool], exports: &[Export])
 {
     for export in exports {
         if let ExportDesc::Func(index) = export.desc {
-            declare(flags, index);
+            set_flag(flags, index);
         }
     }
 }
@@ -126,7 +127,7 @@ fn mark_code(flags: &mut [bool], code: &[Instr])
 {
     for instr in code {
         if let Instr::RefFunc(index) = instr {
-            declare(flags, *index);
+            set_flag(flags, *index);
         }
     }
 }

@@ -1,3 +1,4 @@
+use crate::locals::Locals;
 use crate::{Invalid, validate};
 use sqlite_items::Items;
 use std::alloc::Global;
@@ -58,5 +59,31 @@ fn a_local_that_is_not_there_is_found_in_its_function(rt: HostRuntime) -> Result
     let module = adding(alloc, 2)?;
     let refusal = validate(alloc, module).err();
     assert_eq!(rt; refusal, Some(Invalid::Invalid { function: Some(0) }));
+    Ok(())
+}
+
+#[test]
+fn a_local_is_found_in_its_run(rt: HostRuntime) -> Result<(), Fail> {
+    let params = [ValType::I32];
+    let runs = [
+        (2, ValType::I64),
+        (0, ValType::I32),
+        (1, ValType::FuncRef),
+        (1, ValType::ExternRef),
+    ];
+    let types = [
+        Some(ValType::I32),
+        Some(ValType::I64),
+        Some(ValType::I64),
+        Some(ValType::FuncRef),
+        Some(ValType::ExternRef),
+        None,
+    ];
+    let Some(locals) = Locals::new(rt.alloc(), &params, &runs)? else {
+        return Err("too many".into());
+    };
+    for (index, ty) in types.iter().enumerate() {
+        assert_eq!(rt; locals.get(index as u32), *ty);
+    }
     Ok(())
 }

@@ -1,6 +1,6 @@
 use Rattle.std.proofs.Common.{refl, ap, reverse}
 use Rattle.wasm_valid.specs.Piles.{Pile}
-use Rattle.wasm_valid.specs.Places.{frame_of, place_of}
+use Rattle.wasm_valid.specs.Places.{frame_of}
 use Rattle.wasm_valid.proofs.PlaceLaws.{same_place, start_reached, reached_on, body_untyped, body_ends}
 use Rattle.wasm_valid.proofs.pass.body_of.Goals as goal
 

@@ -1,4 +1,4 @@
-use Rattle.std.proofs.Common.{◌∙◌, ap, sym, subst, ◌≡◌, ◌<◌, ℕ, length}
+use Rattle.std.proofs.Common.{◌∙◌, ap, ◌≡◌, length}
 use Rattle.wasm_valid.specs.Spaces.{funcs_of}
 use Rattle.wasm_valid.proofs.spaces.index_spaces.Goals as goal
 

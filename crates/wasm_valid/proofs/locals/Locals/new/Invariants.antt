@@ -1,12 +1,12 @@
-use Rattle.std.proofs.Common.{◌≡◌, ℕ, ◌+◌, ◌≤◌, ◌++◌, replicate, take, length, flat_map}
-use Rattle.wasm_syntax.specs.declared.types.ValType.{ValType}
+use Rattle.std.proofs.Common.{◌≡◌, ◌+◌, ◌≤◌, take, length}
 use Rattle.wasm_valid.specs.Typing.{count_locals}
+use Rattle.wasm_valid.specs.Views.{ends_from}
 use Rattle.wasm_valid.proofs.locals.Locals.new.Given as goal
 
--- the runs so far are walked, and they aren't too many
+-- the runs so far are counted, and they aren't too many
 abbrev pub invariant-loop-run : goal.invariant-loop-run
 invariant-loop-run l = record {
-  types : l.types.items ≡ l.params ++ flat_map (λ (run : ℕ × ValType). replicate run.0 run.1) (take l.run-index l.runs);
-  count : length l.types.items ≡ length l.params + count_locals (take l.run-index l.runs);
-  few : length l.types.items ≤ 50000;
+  ends : l.ends.items ≡ ends_from (length l.params) (take l.run-index l.runs);
+  count : l.end ≡ length l.params + count_locals (take l.run-index l.runs);
+  few : l.end ≤ 50000;
 }

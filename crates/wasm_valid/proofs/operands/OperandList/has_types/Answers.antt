@@ -1,4 +1,4 @@
-use Rattle.std.proofs.Common.{◌≡◌, ◌∙◌, sym, ap, arith}
+use Rattle.std.proofs.Common.{◌∙◌, sym, arith}
 use Rattle.wasm_syntax.specs.declared.types.ValType.TheVariants.{I32}
 use Rattle.wasm_valid.proofs.PileLaws.{no_more, one_less}
 use Rattle.wasm_valid.proofs.operands.OperandList.has_types.Goals as goal

@@ -1,7 +1,5 @@
-use Rattle.std.proofs.Common.{◌≡◌, ◌∙◌, ap, sym, reverse, true, false}
-use Rattle.wasm_valid.specs.declared.opens.Outer.{Outer}
-use Rattle.wasm_valid.specs.Operands.{take_all, is_spent}
-use Rattle.wasm_valid.specs.Signatures.{types_in}
+use Rattle.std.proofs.Common.{◌∙◌, ap, sym, reverse}
+use Rattle.wasm_valid.specs.Operands.{is_spent}
 use Rattle.wasm_valid.proofs.PlaceLaws.{end_fails, second_goes, end_moves, passes, fails}
 use Rattle.wasm_valid.proofs.pass.Pass.end_block.Goals as goal
 

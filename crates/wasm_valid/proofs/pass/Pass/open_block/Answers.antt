@@ -1,4 +1,4 @@
-use Rattle.std.proofs.Common.{◌≡◌, ◌<◌, ◌≤◌, ◌∙◌, ◌++◌, ◌∷◌, [], ap, sym, arith, reverse, length}
+use Rattle.std.proofs.Common.{◌∙◌, ◌++◌, ◌∷◌, [], ap, arith, reverse, length}
 use Rattle.std.proofs.lemmas.List.{length-reverse}
 use Rattle.wasm_valid.specs.Operands.{exactly}
 use Rattle.wasm_valid.specs.declared.opens.Opens.{Opens}

@@ -1,4 +1,4 @@
-use Rattle.std.proofs.Common.{◌≡◌, ◌∙◌, ap, sym, subst, arith}
+use Rattle.std.proofs.Common.{◌∙◌, sym, arith}
 use Rattle.wasm_valid.proofs.PlaceLaws.{went_moves, rest_ends, rest_begins, place_after_note, counted_after_note, moves_after_note}
 use Rattle.wasm_valid.proofs.pass.Pass.step.Goals as goal
 
