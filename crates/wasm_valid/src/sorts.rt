@@ -87,84 +87,78 @@ pub fn instr_sort(instr: &Instr) -> Option<Sort>
         Instr::Nop => Some(Sort::Nop),
         Instr::I32Const(_) => Some(Sort::Const(ValType::I32)),
         Instr::I32Eqz => Some(Sort::Test(ValType::I32)),
-        Instr::I32Eq => Some(Sort::Compare(ValType::I32)),
-        Instr::I32Ne => Some(Sort::Compare(ValType::I32)),
-        Instr::I32LtS => Some(Sort::Compare(ValType::I32)),
-        Instr::I32LtU => Some(Sort::Compare(ValType::I32)),
-        Instr::I32GtS => Some(Sort::Compare(ValType::I32)),
-        Instr::I32GtU => Some(Sort::Compare(ValType::I32)),
-        Instr::I32LeS => Some(Sort::Compare(ValType::I32)),
-        Instr::I32LeU => Some(Sort::Compare(ValType::I32)),
-        Instr::I32GeS => Some(Sort::Compare(ValType::I32)),
-        Instr::I32GeU => Some(Sort::Compare(ValType::I32)),
-        Instr::I32Clz => Some(Sort::Unary(ValType::I32)),
-        Instr::I32Ctz => Some(Sort::Unary(ValType::I32)),
-        Instr::I32Popcnt => Some(Sort::Unary(ValType::I32)),
-        Instr::I32Add => Some(Sort::Binary(ValType::I32)),
-        Instr::I32Sub => Some(Sort::Binary(ValType::I32)),
-        Instr::I32Mul => Some(Sort::Binary(ValType::I32)),
-        Instr::I32DivS => Some(Sort::Binary(ValType::I32)),
-        Instr::I32DivU => Some(Sort::Binary(ValType::I32)),
-        Instr::I32RemS => Some(Sort::Binary(ValType::I32)),
-        Instr::I32RemU => Some(Sort::Binary(ValType::I32)),
-        Instr::I32And => Some(Sort::Binary(ValType::I32)),
-        Instr::I32Or => Some(Sort::Binary(ValType::I32)),
-        Instr::I32Xor => Some(Sort::Binary(ValType::I32)),
-        Instr::I32Shl => Some(Sort::Binary(ValType::I32)),
-        Instr::I32ShrS => Some(Sort::Binary(ValType::I32)),
-        Instr::I32ShrU => Some(Sort::Binary(ValType::I32)),
-        Instr::I32Rotl => Some(Sort::Binary(ValType::I32)),
-        Instr::I32Rotr => Some(Sort::Binary(ValType::I32)),
-        Instr::I32Extend8S => Some(Sort::Unary(ValType::I32)),
-        Instr::I32Extend16S => Some(Sort::Unary(ValType::I32)),
+        Instr::I32Eq
+        | Instr::I32Ne
+        | Instr::I32LtS
+        | Instr::I32LtU
+        | Instr::I32GtS
+        | Instr::I32GtU
+        | Instr::I32LeS
+        | Instr::I32LeU
+        | Instr::I32GeS
+        | Instr::I32GeU => Some(Sort::Compare(ValType::I32)),
+        Instr::I32Clz
+        | Instr::I32Ctz
+        | Instr::I32Popcnt
+        | Instr::I32Extend8S
+        | Instr::I32Extend16S => Some(Sort::Unary(ValType::I32)),
+        Instr::I32Add
+        | Instr::I32Sub
+        | Instr::I32Mul
+        | Instr::I32DivS
+        | Instr::I32DivU
+        | Instr::I32RemS
+        | Instr::I32RemU
+        | Instr::I32And
+        | Instr::I32Or
+        | Instr::I32Xor
+        | Instr::I32Shl
+        | Instr::I32ShrS
+        | Instr::I32ShrU
+        | Instr::I32Rotl
+        | Instr::I32Rotr => Some(Sort::Binary(ValType::I32)),
         Instr::I64Const(_) => Some(Sort::Const(ValType::I64)),
         Instr::I64Eqz => Some(Sort::Test(ValType::I64)),
-        Instr::I64Eq => Some(Sort::Compare(ValType::I64)),
-        Instr::I64Ne => Some(Sort::Compare(ValType::I64)),
-        Instr::I64LtS => Some(Sort::Compare(ValType::I64)),
-        Instr::I64LtU => Some(Sort::Compare(ValType::I64)),
-        Instr::I64GtS => Some(Sort::Compare(ValType::I64)),
-        Instr::I64GtU => Some(Sort::Compare(ValType::I64)),
-        Instr::I64LeS => Some(Sort::Compare(ValType::I64)),
-        Instr::I64LeU => Some(Sort::Compare(ValType::I64)),
-        Instr::I64GeS => Some(Sort::Compare(ValType::I64)),
-        Instr::I64GeU => Some(Sort::Compare(ValType::I64)),
-        Instr::I64Clz => Some(Sort::Unary(ValType::I64)),
-        Instr::I64Ctz => Some(Sort::Unary(ValType::I64)),
-        Instr::I64Popcnt => Some(Sort::Unary(ValType::I64)),
-        Instr::I64Add => Some(Sort::Binary(ValType::I64)),
-        Instr::I64Sub => Some(Sort::Binary(ValType::I64)),
-        Instr::I64Mul => Some(Sort::Binary(ValType::I64)),
-        Instr::I64DivS => Some(Sort::Binary(ValType::I64)),
-        Instr::I64DivU => Some(Sort::Binary(ValType::I64)),
-        Instr::I64RemS => Some(Sort::Binary(ValType::I64)),
-        Instr::I64RemU => Some(Sort::Binary(ValType::I64)),
-        Instr::I64And => Some(Sort::Binary(ValType::I64)),
-        Instr::I64Or => Some(Sort::Binary(ValType::I64)),
-        Instr::I64Xor => Some(Sort::Binary(ValType::I64)),
-        Instr::I64Shl => Some(Sort::Binary(ValType::I64)),
-        Instr::I64ShrS => Some(Sort::Binary(ValType::I64)),
-        Instr::I64ShrU => Some(Sort::Binary(ValType::I64)),
-        Instr::I64Rotl => Some(Sort::Binary(ValType::I64)),
-        Instr::I64Rotr => Some(Sort::Binary(ValType::I64)),
-        Instr::I64Extend8S => Some(Sort::Unary(ValType::I64)),
-        Instr::I64Extend16S => Some(Sort::Unary(ValType::I64)),
-        Instr::I64Extend32S => Some(Sort::Unary(ValType::I64)),
+        Instr::I64Eq
+        | Instr::I64Ne
+        | Instr::I64LtS
+        | Instr::I64LtU
+        | Instr::I64GtS
+        | Instr::I64GtU
+        | Instr::I64LeS
+        | Instr::I64LeU
+        | Instr::I64GeS
+        | Instr::I64GeU => Some(Sort::Compare(ValType::I64)),
+        Instr::I64Clz
+        | Instr::I64Ctz
+        | Instr::I64Popcnt
+        | Instr::I64Extend8S
+        | Instr::I64Extend16S
+        | Instr::I64Extend32S => Some(Sort::Unary(ValType::I64)),
+        Instr::I64Add
+        | Instr::I64Sub
+        | Instr::I64Mul
+        | Instr::I64DivS
+        | Instr::I64DivU
+        | Instr::I64RemS
+        | Instr::I64RemU
+        | Instr::I64And
+        | Instr::I64Or
+        | Instr::I64Xor
+        | Instr::I64Shl
+        | Instr::I64ShrS
+        | Instr::I64ShrU
+        | Instr::I64Rotl
+        | Instr::I64Rotr => Some(Sort::Binary(ValType::I64)),
         Instr::I32WrapI64 => Some(converted(ValType::I64, ValType::I32)),
-        Instr::I64ExtendI32S => Some(converted(ValType::I32, ValType::I64)),
-        Instr::I64ExtendI32U => Some(converted(ValType::I32, ValType::I64)),
+        Instr::I64ExtendI32S | Instr::I64ExtendI32U => Some(converted(ValType::I32, ValType::I64)),
         Instr::I32Load(at) => Some(load(ValType::I32, 2, *at)),
         Instr::I64Load(at) => Some(load(ValType::I64, 3, *at)),
-        Instr::I32Load8S(at) => Some(load(ValType::I32, 0, *at)),
-        Instr::I32Load8U(at) => Some(load(ValType::I32, 0, *at)),
-        Instr::I32Load16S(at) => Some(load(ValType::I32, 1, *at)),
-        Instr::I32Load16U(at) => Some(load(ValType::I32, 1, *at)),
-        Instr::I64Load8S(at) => Some(load(ValType::I64, 0, *at)),
-        Instr::I64Load8U(at) => Some(load(ValType::I64, 0, *at)),
-        Instr::I64Load16S(at) => Some(load(ValType::I64, 1, *at)),
-        Instr::I64Load16U(at) => Some(load(ValType::I64, 1, *at)),
-        Instr::I64Load32S(at) => Some(load(ValType::I64, 2, *at)),
-        Instr::I64Load32U(at) => Some(load(ValType::I64, 2, *at)),
+        Instr::I32Load8S(at) | Instr::I32Load8U(at) => Some(load(ValType::I32, 0, *at)),
+        Instr::I32Load16S(at) | Instr::I32Load16U(at) => Some(load(ValType::I32, 1, *at)),
+        Instr::I64Load8S(at) | Instr::I64Load8U(at) => Some(load(ValType::I64, 0, *at)),
+        Instr::I64Load16S(at) | Instr::I64Load16U(at) => Some(load(ValType::I64, 1, *at)),
+        Instr::I64Load32S(at) | Instr::I64Load32U(at) => Some(load(ValType::I64, 2, *at)),
         Instr::I32Store(at) => Some(store(ValType::I32, 2, *at)),
         Instr::I64Store(at) => Some(store(ValType::I64, 3, *at)),
         Instr::I32Store8(at) => Some(store(ValType::I32, 0, *at)),
@@ -199,20 +193,20 @@ pub fn instr_sort(instr: &Instr) -> Option<Sort>
             from: *from,
         }),
         Instr::RefNull(ty) => Some(Sort::RefNull(*ty)),
-        Instr::Unreachable => None,
-        Instr::Block(_, _) => None,
-        Instr::Loop(_, _) => None,
-        Instr::If(_, _, _) => None,
-        Instr::Br(_) => None,
-        Instr::BrIf(_) => None,
-        Instr::BrTable { .. } => None,
-        Instr::Return => None,
-        Instr::Call(_) => None,
-        Instr::CallIndirect { .. } => None,
-        Instr::Drop => None,
-        Instr::Select => None,
-        Instr::SelectTyped(_) => None,
-        Instr::RefIsNull => None,
+        Instr::Unreachable
+        | Instr::Block(_, _)
+        | Instr::Loop(_, _)
+        | Instr::If(_, _, _)
+        | Instr::Br(_)
+        | Instr::BrIf(_)
+        | Instr::BrTable { .. }
+        | Instr::Return
+        | Instr::Call(_)
+        | Instr::CallIndirect { .. }
+        | Instr::Drop
+        | Instr::Select
+        | Instr::SelectTyped(_)
+        | Instr::RefIsNull => None,
     }
 }
 
