@@ -17,3 +17,6 @@ mod value;
 pub use module_file::ModuleFile;
 pub use run::run_script;
 pub use transcript::Transcript;
+
+#[cfg(test)]
+mod tests;
