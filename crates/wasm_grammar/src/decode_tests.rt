@@ -432,92 +432,88 @@ fn a_vector_in_a_constant_expression(rt: HostRuntime) -> Result<(), Fail> {
     Ok(())
 }
 
-#[test]
-fn the_function_of_a_small_module(rt: HostRuntime) -> Result<(), Fail> {
-    let module = decoded(rt.alloc(), &ADD)??;
-    let func = module.funcs.get(0).ok_or("no function")?;
-    assert_eq!(rt; func.ty, 0);
-    assert_eq!(rt; func.locals.len(), 0);
-    assert_eq!(rt; func.body, BlockId(0));
-    let ty = module.types.get(0).ok_or("no type")?;
-    assert_eq!(rt;
-        ty.params.as_slice(),
-        [ValType::I32, ValType::I32].as_slice()
-    );
-    assert_eq!(rt; ty.results.as_slice(), [ValType::I32].as_slice());
-    let export = module.exports.get(0).ok_or("no export")?;
-    assert_eq!(rt; export.name.as_str(), "add");
-    assert_eq!(rt; export.desc, ExportDesc::Func(0));
-    Ok(())
+fn has_function(module: &Module, index: usize, ty: u32, body: BlockId) -> bool {
+    match module.funcs.get(index) {
+        Some(func) => func.ty == ty && func.locals.is_empty() && func.body == body,
+        None => false,
+    }
+}
+
+fn has_type(module: &Module, index: usize, params: &[ValType], results: &[ValType]) -> bool {
+    match module.types.get(index) {
+        Some(ty) => ty.params.as_slice() == params && ty.results.as_slice() == results,
+        None => false,
+    }
+}
+
+fn has_export(module: &Module, index: usize, name: &str, desc: ExportDesc) -> bool {
+    match module.exports.get(index) {
+        Some(export) => export.name.as_str() == name && export.desc == desc,
+        None => false,
+    }
+}
+
+fn has_segment(module: &Module, index: usize, ty: ValType, items: &[BlockId], mode: Mode) -> bool {
+    match module.elems.get(index) {
+        Some(elem) => elem.ty == ty && elem.items.as_slice() == items && elem.mode == mode,
+        None => false,
+    }
 }
 
 #[test]
-fn the_block_of_a_small_module(rt: HostRuntime) -> Result<(), Fail> {
+fn the_parts_of_a_small_module(rt: HostRuntime) -> Result<(), Fail> {
     let module = decoded(rt.alloc(), &ADD)??;
+    assert!(rt; has_function(&module, 0, 0, BlockId(0)));
+    assert!(rt; has_type(&module, 0, &[ValType::I32, ValType::I32], &[ValType::I32]));
+    assert!(rt; has_export(&module, 0, "add", ExportDesc::Func(0)));
     assert_eq!(rt; module.blocks.len(), 1);
-    let body = module.blocks.get(0).ok_or("no body")?;
-    assert_eq!(rt; body.len(), 3);
-    assert!(rt; matches!(body.get(0), Some(Instr::LocalGet(0))));
-    assert!(rt; matches!(body.get(1), Some(Instr::LocalGet(1))));
-    assert!(rt; matches!(body.get(2), Some(Instr::I32Add)));
+    assert!(rt;
+        matches!(
+            module.code(BlockId(0)),
+            [Instr::LocalGet(0), Instr::LocalGet(1), Instr::I32Add]
+        )
+    );
     Ok(())
 }
 
 #[test]
-fn a_segment_and_its_blocks(rt: HostRuntime) -> Result<(), Fail> {
+fn blocks_of_segments_and_then_of_bodies(rt: HostRuntime) -> Result<(), Fail> {
     let module = decoded(rt.alloc(), &TABLES)??;
-    let elem = module.elems.get(0).ok_or("no segment")?;
-    assert_eq!(rt; elem.ty, ValType::FuncRef);
-    assert_eq!(rt; elem.items.as_slice(), [BlockId(1)].as_slice());
     let mode = Mode::Active {
         index: 0,
         offset: BlockId(0),
     };
-    assert_eq!(rt; elem.mode, mode);
-    let item = module.blocks.get(1).ok_or("no item")?;
-    assert!(rt; matches!(item.get(0), Some(Instr::RefFunc(0))));
-    Ok(())
-}
-
-#[test]
-fn bodies_behind_the_blocks_of_segments(rt: HostRuntime) -> Result<(), Fail> {
-    let module = decoded(rt.alloc(), &TABLES)??;
-    let first = module.funcs.get(0).ok_or("no function")?;
-    assert_eq!(rt; first.ty, 0);
-    assert_eq!(rt; first.body, BlockId(2));
-    let second = module.funcs.get(1).ok_or("no second function")?;
-    assert_eq!(rt; second.ty, 1);
-    assert_eq!(rt; second.body, BlockId(3));
+    assert!(rt; has_segment(&module, 0, ValType::FuncRef, &[BlockId(1)], mode));
+    assert!(rt; matches!(module.code(BlockId(1)), [Instr::RefFunc(0)]));
+    assert!(rt; has_function(&module, 0, 0, BlockId(2)));
+    assert!(rt; has_function(&module, 1, 1, BlockId(3)));
     assert_eq!(rt; module.blocks.len(), 4);
     Ok(())
 }
 
+/// A body of a block that holds an `if` with both its parts, and an `if` without a second one.
+static NESTED: [u8; 28] = [
+    0x01, 0x04, 0x01, 0x60, 0x00, 0x00, 0x03, 0x02, 0x01, 0x00, 0x0A, 0x10, 0x01, 0x0E, 0x00, 0x02,
+    0x40, 0x04, 0x40, 0x00, 0x05, 0x01, 0x0B, 0x0B, 0x04, 0x40, 0x0B, 0x0B,
+];
+
 #[test]
 fn blocks_are_numbered_as_they_end(rt: HostRuntime) -> Result<(), Fail> {
-    let bytes = [
-        0x01, 0x04, 0x01, 0x60, 0x00, 0x00, 0x03, 0x02, 0x01, 0x00, 0x0A, 0x10, 0x01, 0x0E, 0x00,
-        0x02, 0x40, 0x04, 0x40, 0x00, 0x05, 0x01, 0x0B, 0x0B, 0x04, 0x40, 0x0B, 0x0B,
-    ];
-    let module = sections(rt.alloc(), &bytes)??;
+    let module = sections(rt.alloc(), &NESTED)??;
     assert_eq!(rt; module.blocks.len(), 6);
-    let outer = module.blocks.get(2).ok_or("no outer block")?;
     assert!(rt;
         matches!(
-            outer.get(0),
-            Some(Instr::If(BlockType::Empty, BlockId(0), BlockId(1)))
-        )
-    );
-    let body = module.blocks.get(5).ok_or("no body")?;
-    assert!(rt;
-        matches!(
-            body.get(0),
-            Some(Instr::Block(BlockType::Empty, BlockId(2)))
+            module.code(BlockId(2)),
+            [Instr::If(BlockType::Empty, BlockId(0), BlockId(1))]
         )
     );
     assert!(rt;
         matches!(
-            body.get(1),
-            Some(Instr::If(BlockType::Empty, BlockId(3), BlockId(4)))
+            module.code(BlockId(5)),
+            [
+                Instr::Block(BlockType::Empty, BlockId(2)),
+                Instr::If(BlockType::Empty, BlockId(3), BlockId(4))
+            ]
         )
     );
     Ok(())
@@ -534,16 +530,14 @@ static SEGMENTS: [u8; 52] = [
 #[test]
 fn element_segments_by_their_flags(rt: HostRuntime) -> Result<(), Fail> {
     let module = sections(rt.alloc(), &SEGMENTS)??;
+    let active = Mode::Active {
+        index: 3,
+        offset: BlockId(3),
+    };
     assert_eq!(rt; module.elems.len(), 8);
-    let indexed = module.elems.get(2).ok_or("no segment")?;
-    assert!(rt; matches!(indexed.mode, Mode::Active { index: 3, .. }));
-    assert_eq!(rt; indexed.ty, ValType::FuncRef);
-    let passive = module.elems.get(5).ok_or("no segment")?;
-    assert_eq!(rt; passive.mode, Mode::Passive);
-    assert_eq!(rt; passive.ty, ValType::ExternRef);
-    let declared = module.elems.get(7).ok_or("no segment")?;
-    assert_eq!(rt; declared.mode, Mode::Declared);
-    assert_eq!(rt; declared.items.len(), 0);
+    assert!(rt; has_segment(&module, 2, ValType::FuncRef, &[BlockId(4)], active));
+    assert!(rt; has_segment(&module, 5, ValType::ExternRef, &[BlockId(8)], Mode::Passive));
+    assert!(rt; has_segment(&module, 7, ValType::FuncRef, &[], Mode::Declared));
     Ok(())
 }
 

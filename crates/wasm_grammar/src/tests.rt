@@ -5,7 +5,9 @@ use crate::{
 use sqlite_items::Items;
 use std::alloc::Global;
 use std::test::Fail;
-use wasm_syntax::{BlockType, ExportDesc, FuncType, GlobalType, ImportDesc, Instr, ValType};
+use wasm_syntax::{
+    BlockType, Export, ExportDesc, FuncType, GlobalType, Import, ImportDesc, Instr, ValType,
+};
 
 fn nothing_built(alloc: Global) -> Built {
     Built {
@@ -95,71 +97,123 @@ fn names_are_utf_8(rt: HostRuntime) -> Result<(), Fail> {
     Ok(())
 }
 
-#[test]
-fn types_and_what_the_profile_leaves_out(rt: HostRuntime) -> Result<(), Fail> {
-    let alloc = rt.alloc();
+/// The leaf that is noted where these bytes are a vector of one function type, with so many bytes of the file behind them.
+fn leaf_of_a_type(alloc: Global, after: u32, bytes: &[u8]) -> Option<Leaf> {
     let mut built = nothing_built(alloc);
+    match vector_of::<FuncType>(alloc, &mut built, after as u64, bytes) {
+        Ok((types, rest)) => {
+            if types.len() == 1 && rest.is_empty() {
+                built.first
+            } else {
+                None
+            }
+        }
+        Err(_) => None,
+    }
+}
+
+#[test]
+fn types_and_what_the_profile_leaves_out(rt: HostRuntime) {
     let bytes = [0x01, 0x60, 0x02, 0x7F, 0x7C, 0x01, 0x7B];
-    let (types, rest) = vector_of::<FuncType>(alloc, &mut built, 3, &bytes)?;
-    assert_eq!(rt; types.len(), 1);
-    assert_eq!(rt; rest.len(), 0);
-    let first = built.first.ok_or("no leaf was noted")?;
     assert_eq!(rt;
-        first,
-        Leaf {
+        leaf_of_a_type(rt.alloc(), 3, &bytes),
+        Some(Leaf {
             left: 6,
             what: crate::Foreign::Float
-        }
-    );
-    let few = [0xFF, 0xFF, 0xFF, 0xFF, 0x0F, 0x7F];
-    assert!(rt; vector_of::<ValType>(alloc, &mut built, 0, &few).is_err());
-    Ok(())
-}
-
-#[test]
-fn imports_and_exports(rt: HostRuntime) -> Result<(), Fail> {
-    let alloc = rt.alloc();
-    let mut built = nothing_built(alloc);
-    let bytes = [0x01, b'm', 0x01, b'g', 0x03, 0x7E, 0x01];
-    let (import, _) = import_of(alloc, &mut built, 0, &bytes)?;
-    assert_eq!(rt; import.module.as_str(), "m");
-    assert_eq!(rt; import.name.as_str(), "g");
-    assert_eq!(rt;
-        import.desc,
-        ImportDesc::Global(GlobalType {
-            val: ValType::I64,
-            mutable: true
         })
     );
-    let (export, _) = export_of(alloc, &mut built, 0, &[0x03, b'a', b'd', b'd', 0x00, 0x05])?;
-    assert_eq!(rt; export.name.as_str(), "add");
-    assert_eq!(rt; export.desc, ExportDesc::Func(5));
-    assert!(rt; built.first.is_none());
+}
+
+#[test]
+fn a_count_of_more_types_than_there_are(rt: HostRuntime) {
+    let mut built = nothing_built(rt.alloc());
+    let few = [0xFF, 0xFF, 0xFF, 0xFF, 0x0F, 0x7F];
+    assert!(rt; vector_of::<ValType>(rt.alloc(), &mut built, 0, &few).is_err());
+}
+
+fn import(alloc: Global, bytes: &[u8]) -> Option<Import> {
+    let mut built = nothing_built(alloc);
+    match import_of(alloc, &mut built, 0, bytes) {
+        Ok((import, _)) => Some(import),
+        Err(_) => None,
+    }
+}
+
+fn export(alloc: Global, bytes: &[u8]) -> Option<Export> {
+    let mut built = nothing_built(alloc);
+    match export_of(alloc, &mut built, 0, bytes) {
+        Ok((export, _)) => Some(export),
+        Err(_) => None,
+    }
+}
+
+#[test]
+fn imports(rt: HostRuntime) -> Result<(), Fail> {
+    let bytes = [0x01, b'm', 0x01, b'g', 0x03, 0x7E, 0x01];
+    let import = import(rt.alloc(), &bytes).ok_or("no import")?;
+    assert_eq!(rt; import.module.as_str(), "m");
+    assert_eq!(rt; import.name.as_str(), "g");
+    let desc = ImportDesc::Global(GlobalType {
+        val: ValType::I64,
+        mutable: true,
+    });
+    assert_eq!(rt; import.desc, desc);
     Ok(())
 }
 
 #[test]
-fn tokens_of_instructions(rt: HostRuntime) -> Result<(), Fail> {
-    let mut built = nothing_built(rt.alloc());
-    let (token, rest) = token_of(rt.alloc(), true, &mut built, 0, &[0x22, 0x81, 0x00, 0x0B])?;
-    assert!(rt; matches!(token, Token::Plain(Instr::LocalTee(1))));
-    assert_eq!(rt; rest, [0x0B].as_slice());
-    let (token, _) = token_of(rt.alloc(), true, &mut built, 0, &[0x41, 0x7F])?;
-    assert!(rt; matches!(token, Token::Plain(Instr::I32Const(0xFFFF_FFFF))));
-    let (token, _) = token_of(rt.alloc(), true, &mut built, 0, &[0x04, 0x40])?;
-    assert!(rt; matches!(token, Token::If(BlockType::Empty)));
-    let (token, _) = token_of(rt.alloc(), true, &mut built, 0, &[0x02, 0x85, 0x00])?;
-    assert!(rt; matches!(token, Token::Block(BlockType::Index(5))));
-    let (token, _) = token_of(rt.alloc(), true, &mut built, 4, &[0x03, 0x7B])?;
-    assert!(rt; matches!(token, Token::Loop(BlockType::One(_))));
+fn exports(rt: HostRuntime) -> Result<(), Fail> {
+    let bytes = [0x03, b'a', b'd', b'd', 0x00, 0x05];
+    let export = export(rt.alloc(), &bytes).ok_or("no export")?;
+    assert_eq!(rt; export.name.as_str(), "add");
+    assert_eq!(rt; export.desc, ExportDesc::Func(5));
+    Ok(())
+}
+
+/// The token with which these bytes begin, and how many stand behind it.
+fn token(alloc: Global, bytes: &[u8]) -> Option<(Token, usize)> {
+    let mut built = nothing_built(alloc);
+    match token_of(alloc, true, &mut built, 0, bytes) {
+        Ok((token, rest)) => Some((token, rest.len())),
+        Err(_) => None,
+    }
+}
+
+/// The leaf that is noted where these bytes are a token.
+fn leaf_of_a_token(alloc: Global, after: u32, bytes: &[u8]) -> Option<Leaf> {
+    let mut built = nothing_built(alloc);
+    match token_of(alloc, true, &mut built, after as u64, bytes) {
+        Ok(_) => built.first,
+        Err(_) => None,
+    }
+}
+
+#[test]
+fn tokens_of_instructions(rt: HostRuntime) {
+    let tee = token(rt.alloc(), &[0x22, 0x81, 0x00, 0x0B]);
+    assert!(rt; matches!(tee, Some((Token::Plain(Instr::LocalTee(1)), 1))));
+    let constant = token(rt.alloc(), &[0x41, 0x7F]);
+    assert!(rt;
+        matches!(
+            constant,
+            Some((Token::Plain(Instr::I32Const(0xFFFF_FFFF)), 0))
+        )
+    );
+    assert!(rt; token(rt.alloc(), &[0x06]).is_none());
+}
+
+#[test]
+fn tokens_of_blocks(rt: HostRuntime) {
+    let test = token(rt.alloc(), &[0x04, 0x40]);
+    assert!(rt; matches!(test, Some((Token::If(BlockType::Empty), 0))));
+    let block = token(rt.alloc(), &[0x02, 0x85, 0x00]);
+    assert!(rt; matches!(block, Some((Token::Block(BlockType::Index(5)), 0))));
+    assert!(rt; token(rt.alloc(), &[0x02, 0x41]).is_none());
     assert_eq!(rt;
-        built.first,
+        leaf_of_a_token(rt.alloc(), 4, &[0x03, 0x7B]),
         Some(Leaf {
             left: 5,
             what: crate::Foreign::Simd
         })
     );
-    assert!(rt; token_of(rt.alloc(), true, &mut built, 0, &[0x02, 0x41]).is_err());
-    assert!(rt; token_of(rt.alloc(), true, &mut built, 0, &[0x06]).is_err());
-    Ok(())
 }
