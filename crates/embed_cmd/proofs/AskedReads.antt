@@ -1,8 +1,9 @@
 -- Files that are read one after the other, up to the first that is too long.
-use Rattle.std.proofs.Common.{◌≡◌, ℕ, zero, suc, ◌+◌, ◌<◌, ◌≤◌, List, [], ◌∷◌, Option, Some, None, Err, MatchOption, true, false, length, drop, get_or, refl, sym, ap, ◌∙◌, subst, inl, inr, arith, cond}
-use Rattle.std.proofs.lemmas.List.{drop_more}
+use Rattle.std.proofs.Common.{◌≡◌, ℕ, zero, suc, ◌+◌, ◌<◌, ◌≤◌, List, [], ◌∷◌, ◌++◌, Bool, take, Option, Some, None, Err, MatchOption, true, false, length, drop, get_or, refl, sym, ap, ◌∙◌, subst, inl, inr, arith, cond}
+use Rattle.std.proofs.lemmas.List.{drop_more, take_more}
 use Rattle.std.proofs.Math.Seq.{drop-length}
 use Rattle.embed_base.specs.Counts.{RoseByMore}
+use Rattle.embed_cmd.specs.Headline.{AreThere}
 use Rattle.embed_cmd.specs.declared.asked_files.Unread.{Unread}
 use Rattle.embed_cmd.specs.declared.asked_files.Unread.TheVariants as unread
 use Rattle.embed_cmd.specs.declared.words.Asked.{Asked}
@@ -109,3 +110,13 @@ long_after_script (unread.TooLong path) contents now asked modules before mid af
     )) here)
 long_after_script unread.Failed contents now asked modules before mid after is h same short long = tt
 long_after_script unread.NoMemory contents now asked modules before mid after is h same short long = tt
+
+-- one module more is there
+there_append : (absent : List ℕ → Bool) (modules : List Module) (m : Module) → AreThere absent (module_files modules) → absent m.1 ≡ false → AreThere absent (module_files (modules ++ m ∷ []))
+there_append absent [] m h is = (is, tt)
+there_append absent (x ∷ xs) m h is = (h.0, there_append absent xs m h.1 is)
+
+pub there_more : (absent : List ℕ → Bool) (modules : List Module) (i : ℕ) (d : Module) → i < length modules → AreThere absent (module_files (take i modules)) → absent (get_or modules i d).1 ≡ false
+    → AreThere absent (module_files (take (i + 1) modules))
+there_more absent modules i d within h is =
+    subst (λ ms. AreThere absent (module_files ms)) (sym (take_more modules i d within)) (there_append absent (take i modules) (get_or modules i d) h is)

@@ -1,12 +1,12 @@
 -- The files of modules, and what they decode to.
-use Rattle.std.proofs.Common.{◌≡◌, ℕ, ◌+◌, ◌<◌, ◌≤◌, ◌^◌, List, [], ◌∷◌, ◌++◌, Option, Some, None, IfSome, IsSome, IsSomeAnd, length, take, get_or, refl, sym, ap, ◌∙◌, subst, inl, inr}
+use Rattle.std.proofs.Common.{◌≡◌, ℕ, ◌+◌, ◌<◌, List, [], ◌∷◌, ◌++◌, Option, Some, None, IfSome, IsSome, IsSomeAnd, length, take, get_or, refl, sym, ap, ◌∙◌, subst, inl, inr}
 use Rattle.std.proofs.lemmas.List.{take_more}
 use Rattle.std.proofs.Math.Seq.{take-length}
 use Rattle.wasm_grammar.specs.Decoding.{Decoded, Decodes}
 use Rattle.embed_script.specs.declared.module_file.ModuleFile.{ModuleFile}
 use Rattle.embed_script.specs.Functions.{Modules}
 use Rattle.embed_script.specs.ModuleFiles.{AreDecodings}
-use Rattle.embed_cmd.specs.Transcript.{Contents, AskedFile, IsOfSome, module_files, AreDecoded}
+use Rattle.embed_cmd.specs.Transcript.{Contents, IsOfSome, module_files, AreDecoded}
 use Rattle.embed_cmd.specs.AskedFiles.{AreFilesOf}
 
 abbrev pub Named : Type 0

@@ -1,5 +1,5 @@
 -- How the program's run answers the transcript of its command line.
-use Rattle.std.specs.Prelude.{◌≡◌, ℕ, List, ◌++◌, take, Option, Some, IsSomeAnd, MatchOption}
+use Rattle.std.specs.Prelude.{◌≡◌, ◌⊎◌, ℕ, Bool, false, List, [], ◌∷◌, ◌++◌, take, Option, Some, IsSomeAnd, MatchOption}
 use Rattle.std.specs.Option.{option_map}
 use Rattle.embed_base.specs.declared.status.Status.{Status}
 use Rattle.embed_base.specs.declared.status.Status.TheVariants as statuses
@@ -41,6 +41,12 @@ abbrev pub UnlessReadFault : Status → Type 0 → Type 0
 UnlessReadFault statuses.ReadFault P = Unit {0}
 UnlessReadFault _ P = P
 
+-- a fact that holds with every status but those of a failed read and of want of memory
+abbrev pub UnlessUnread : Status → Type 0 → Type 0
+UnlessUnread statuses.ReadFault P = Unit {0}
+UnlessUnread statuses.NoMemory P = Unit {0}
+UnlessUnread _ P = P
+
 -- a fact that holds with every status but that of a failed write
 abbrev pub UnlessWriteFault : Status → Type 0 → Type 0
 UnlessWriteFault statuses.WriteFault P = Unit {0}
@@ -73,6 +79,16 @@ pub record IsReadFault (words : List (List ℕ)) (before after : ℕ) (failed : 
 abbrev pub IsTooLongOf : List AskedFile → Contents → ℕ → ℕ → Type 0
 IsTooLongOf files contents before after =
     IsOfSome (λ file. MatchOption (contents file.path) (RoseByMore before after file.limit) (λ bytes. first_long contents files ≡ Some file.path)) files
+
+-- each of these files is there: none is known to be absent
+abbrev pub AreThere : (List ℕ → Bool) → List AskedFile → Type 0
+AreThere absent [] = Unit {0}
+AreThere absent (file ∷ files) = (absent file.path ≡ false) × AreThere absent files
+
+-- each file that is asked for is there, or one of them was too long
+abbrev pub AreThereOrLong : List (List ℕ) → (List ℕ → Bool) → Contents → ℕ → ℕ → Type 0
+AreThereOrLong words absent contents before after =
+    MatchOption (command_of words) (Unit {0}) (λ asked. AreThere absent (files_of asked) ⊎ IsTooLongOf (files_of asked) contents before after)
 
 abbrev pub IsTooLong : List (List ℕ) → Contents → ℕ → ℕ → Type 0
 IsTooLong words contents before after = MatchOption (command_of words) ⊥ (λ asked. IsTooLongOf (files_of asked) contents before after)

@@ -1,6 +1,7 @@
 ghost use Rattle.std.specs.Prelude.{◌≡◌, ℕ, List, ◌<◌, ◌≤◌, false, Some, None, OnOk, IfOk, IfSome, length};
 ghost use Rattle.embed_base.specs.Counts.{Rose};
 ghost use Rattle.embed_cmd.specs.Transcript.{IsOfSome, IsAsked, is_longer, first_long, files_of, module_files, most_script_bytes};
+ghost use Rattle.embed_cmd.specs.Headline.{AreThere};
 ghost use Rattle.embed_cmd.specs.AskedFiles.{OnFailed, UnlessFailed, IfTooLong, IsPast, IsLongPath, AreFilesOf};
 
 use crate::words::Asked;
@@ -57,6 +58,7 @@ fn read_file<F: Files>(
     ensures whole { IfOk result (λ bytes. IfSome (F.content files.old path.now) (λ told. bytes.items ≡ told)) }
     ensures within { IfOk result (λ bytes. length bytes.items ≤ limit) }
     ensures not_longer { OnOk result (is_longer limit (F.content files.old path.now) ≡ false) }
+    ensures there { OnOk result (F.absent files.old path.now ≡ false) }
     ensures too_long { IfTooLong result (λ long. (long ≡ path.now) × IsPast limit (F.content files.old path.now) (F.taken files.old) (F.taken files.new)) }
 
     ensures failed_rose { OnFailed result (Rose (F.faults files.old) (F.faults files.new)) }
@@ -65,6 +67,7 @@ fn read_file<F: Files>(
     ensures failed_stays { UnlessFailed result (F.failed files.new ≡ F.failed files.old) }
 
     ensures contents_stay { (name : List ℕ) → F.content files.new name ≡ F.content files.old name }
+    ensures absent_stays { (name : List ℕ) → F.absent files.new name ≡ F.absent files.old name }
     ensures faults_stay { F.faults files.old ≤ F.faults files.new }
     ensures taken_stays { F.taken files.old ≤ F.taken files.new }
 {
@@ -85,6 +88,7 @@ fn read_modules<F: Files>(
 ) -> Result<Vec<ModuleFile>, Unread>
     ensures named { IfOk result (λ read. AreFilesOf (F.content files.old) modules.now read.items) }
     ensures not_longer { OnOk result (first_long (F.content files.old) (module_files modules.now) ≡ None) }
+    ensures there { OnOk result (AreThere (F.absent files.old) (module_files modules.now)) }
     ensures too_long { IfTooLong result (λ path. IsLongPath (module_files modules.now) (F.content files.old) (F.taken files.old) (F.taken files.new) path) }
 
     ensures failed_rose { OnFailed result (Rose (F.faults files.old) (F.faults files.new)) }
@@ -119,6 +123,7 @@ pub(crate) fn read_asked<F: Files>(
     ensures within { IfOk result (λ read. length read.script.items ≤ most_script_bytes) }
     ensures modules { IfOk result (λ read. AreFilesOf (F.content files.old) asked.now.modules read.modules.items) }
     ensures not_longer { OnOk result (first_long (F.content files.old) (files_of asked.now) ≡ None) }
+    ensures there { OnOk result (AreThere (F.absent files.old) (files_of asked.now)) }
     ensures too_long { IfTooLong result (λ path. IsLongPath (files_of asked.now) (F.content files.old) (F.taken files.old) (F.taken files.new) path) }
 
     ensures failed_rose { OnFailed result (Rose (F.faults files.old) (F.faults files.new)) }

@@ -1,12 +1,12 @@
 -- The map of names after a declaration.
-use Rattle.std.proofs.Common.{◌≡◌, ℕ, List, Option, Some, None, Bool, true, false, refl, sym, String, Global, string_bytes, ap, ◌∙◌, cond}
+use Rattle.std.proofs.Common.{◌≡◌, ℕ, List, Option, Some, Bool, true, false, refl, sym, String, Global, string_bytes, ap, ◌∙◌, cond}
 use Rattle.std.proofs.lemmas.Map.Text.{hash_map_updates_text}
 use Rattle.std.specs.HashMap as hash
 use Rattle.std.specs.Str.{bytes_eq}
 use Rattle.std.specs.String.{string_eq}
 use Rattle.std.specs.Option.{option_map}
 use Rattle.embed_script.specs.declared.value.Bound.{Bound}
-use Rattle.embed_script.specs.Evaluation.{Binding, Bindings}
+use Rattle.embed_script.specs.Evaluation.{Bindings}
 use Rattle.embed_script.specs.Outcome.{bound}
 use Rattle.embed_script.specs.Tasks.{Names, IsBoundAs, binding_of}
 

@@ -9,17 +9,17 @@ use Rattle.host_parser.specs.declared.script.Operand.{Operand}
 use Rattle.host_parser.specs.declared.script.Form.{Form}
 use Rattle.host_parser.specs.declared.script.Form.TheVariants as forms
 use Rattle.host_parser.specs.declared.script.Node.{Node}
-use Rattle.host_parser.specs.Grammar.{Additive, Sum, product, added, Product, factor, times, Factor, number, text, name, parens, call, Listed, single, comma, Passed, unlisted, passed, passed_more}
-use Rattle.host_parser.specs.Shows.{AtNode, IsNumber, IsText, IsName, IsChain, IsCall, AreBelow, operator_of, SumShows, SumLeft, ProductShows, ProductLeft, FactorShows, ListedShows, PassedShow, sum_place, product_place}
+use Rattle.host_parser.specs.Grammar.{Additive, Sum, product, added, Product, factor, times, Factor, number, text, name, parens, call, Passed}
+use Rattle.host_parser.specs.Shows.{AtNode, IsNumber, IsText, IsName, IsChain, IsCall, AreBelow, operator_of, SumShows, SumLeft, ProductShows, ProductLeft, FactorShows, PassedShow, sum_place, product_place}
 use Rattle.embed_script.specs.declared.value.Value.{Value}
 use Rattle.embed_script.specs.declared.value.Value.TheVariants as values
 use Rattle.embed_script.specs.declared.evaluate.Task.{Task}
 use Rattle.embed_script.specs.declared.evaluate.Task.TheVariants as tasks
 use Rattle.embed_script.specs.Operators.{number_of}
 use Rattle.embed_script.specs.Ends.{and_then, at_place, keeping}
-use Rattle.embed_script.specs.Evaluation.{Bindings, Answer, Answers, sum_value, product_value, factor_value, listed_values, passed_values, operated, named, called}
-use Rattle.embed_script.specs.Tasks.{Todo, evaluates, applies, calls, perform, Fits, TodosShow, TodoShows, SumsShow, listed_expressions, passed_expressions, values_of, chain_tasks, following_tasks, call_tasks, AllBefore}
-use Rattle.embed_script.proofs.Values.{before, passed_are, values_count, listed_show, passed_show, sums_count}
+use Rattle.embed_script.specs.Evaluation.{Bindings, Answer, Answers, sum_value, product_value, factor_value, operated, named, called}
+use Rattle.embed_script.specs.Tasks.{Todo, evaluates, applies, calls, perform, Fits, TodosShow, TodoShows, SumsShow, passed_expressions, values_of, chain_tasks, following_tasks, call_tasks, AllBefore}
+use Rattle.embed_script.proofs.Values.{before, passed_are, values_count, passed_show, sums_count}
 
 -- the operands and operators of a chain
 abbrev sum_todos : Sum → List Todo

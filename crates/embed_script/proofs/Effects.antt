@@ -1,5 +1,5 @@
 -- What a statement does, read off the node that shows it.
-use Rattle.std.proofs.Common.{◌≡◌, ℕ, List, [], ◌∷◌, ◌++◌, Some, IsSomeAnd, slice_get, get_or, length, refl, sym, ap, ◌∙◌, subst}
+use Rattle.std.proofs.Common.{◌≡◌, ℕ, List, [], ◌∷◌, ◌++◌, IsSomeAnd, get_or, length, refl, sym, ap, ◌∙◌, subst}
 use Rattle.std.proofs.lemmas.Option.{slice_get_read}
 use Rattle.host_parser.specs.declared.script.NodeId.{NodeId}
 use Rattle.host_parser.specs.declared.script.Form.{Form}

@@ -1,5 +1,5 @@
 -- Lists of expressions and their values, and the lines that they make.
-use Rattle.std.proofs.Common.{◌≡◌, ℕ, ◌+◌, ◌<◌, List, [], ◌∷◌, ◌++◌, Option, Some, None, Result, Ok, Err, IfSome, length, drop, take, get_or, map, refl, sym, ap, ◌∙◌, subst, append_assoc, arith, length-take, append-nil}
+use Rattle.std.proofs.Common.{◌≡◌, ℕ, ◌+◌, ◌<◌, List, [], ◌∷◌, ◌++◌, Option, Some, None, Ok, Err, IfSome, length, drop, take, get_or, map, refl, sym, ap, ◌∙◌, subst, append_assoc, arith, length-take, append-nil}
 use Rattle.std.proofs.lemmas.List.{map-append, length-map, take_more, drop_more}
 use Rattle.std.proofs.Math.Seq.{drop-length}
 use Rattle.std.specs.List.{join_with_byte}

@@ -1,5 +1,5 @@
 -- The statements of a script, one after the other.
-use Rattle.std.proofs.Common.{◌≡◌, ℕ, ◌+◌, ◌-◌, ◌<◌, ◌≤◌, List, [], ◌∷◌, ◌++◌, Option, Some, None, Result, Ok, Err, IfSome, IsSomeAnd, slice_get, length, drop, get_or, fold, refl, sym, ap, ◌∙◌, subst, string_bytes}
+use Rattle.std.proofs.Common.{◌≡◌, ℕ, ◌+◌, ◌<◌, List, [], ◌∷◌, ◌++◌, Option, Some, None, Result, Ok, Err, IfSome, IsSomeAnd, slice_get, length, drop, get_or, fold, refl, sym, ap, ◌∙◌, subst, string_bytes}
 use Rattle.std.proofs.lemmas.List.{drop_more}
 use Rattle.std.proofs.Math.Seq.{drop-length}
 use Rattle.std.specs.HashMap as hash
@@ -10,16 +10,16 @@ use Rattle.host_parser.specs.declared.script.NodeId.{NodeId}
 use Rattle.host_parser.specs.declared.script.Form.{Form}
 use Rattle.host_parser.specs.declared.script.Form.TheVariants as forms
 use Rattle.host_parser.specs.declared.script.Node.{Node}
-use Rattle.host_parser.specs.Grammar.{Sum, Arguments, Instance, Script, nothing, declaration, binding, printing}
+use Rattle.host_parser.specs.Grammar.{Arguments, Script, nothing, declaration, binding, printing}
 use Rattle.host_parser.specs.Shows.{IsPrint, ArgumentsShow, ScriptShows}
 use Rattle.embed_script.specs.declared.run.Run.{Run}
 use Rattle.embed_script.specs.declared.stop.Stop.{Stop}
-use Rattle.embed_script.specs.Ends.{End, done, charge}
+use Rattle.embed_script.specs.Ends.{End, done}
 use Rattle.embed_script.specs.Functions.{Modules}
 use Rattle.embed_script.specs.Evaluation.{Bindings}
-use Rattle.embed_script.specs.Outcome.{Statement, declares, binds, prints, statements_of, Progress, going, ended, after, effect, performed, run_of, outcome_of, outcome_of_progress}
+use Rattle.embed_script.specs.Outcome.{Statement, declares, binds, prints, statements_of, Progress, going, ended, after, performed, run_of, outcome_of, outcome_of_progress}
 use Rattle.embed_script.specs.Stops.{end_of, Ends}
-use Rattle.embed_script.specs.Tasks.{IsBoundAs, binding_of, SumsShow, expressions_of}
+use Rattle.embed_script.specs.Tasks.{IsBoundAs, binding_of}
 use Rattle.embed_script.specs.Runs.{StatementShows, StatementsShow, FormShows, HasPrinted, Stands, EndedBy, Performs}
 use Rattle.embed_script.proofs.Values.{arguments_show}
 

@@ -16,9 +16,9 @@ use Rattle.embed_script.specs.declared.evaluate.Task.{Task}
 use Rattle.embed_script.specs.declared.evaluate.Task.TheVariants as tasks
 use Rattle.embed_script.specs.declared.stop.Stop.{Stop}
 use Rattle.embed_script.specs.Ends.{End, and_then, keeping}
-use Rattle.embed_script.specs.Stops.{end_of, Ends, Meets, MeetsAs}
+use Rattle.embed_script.specs.Stops.{end_of, Ends}
 use Rattle.embed_script.specs.Evaluation.{Bindings, Answer, sum_value, called}
-use Rattle.embed_script.specs.Tasks.{Todo, evaluates, applies, calls, perform, Fits, TodosShow, TodoShows, chain_tasks, tasks_size, task_size, size_of, Continues, Steps, last_value, call_tasks}
+use Rattle.embed_script.specs.Tasks.{Todo, evaluates, calls, perform, Fits, TodosShow, TodoShows, chain_tasks, tasks_size, task_size, size_of, Continues, Steps, last_value, call_tasks}
 use Rattle.embed_script.proofs.Sizes.{chain_smaller, call_smaller, size_least}
 use Rattle.embed_script.proofs.Chains.{Unrolls, ReadsChain, ReadsCall, Reads, reads_sum, show_append}
 

@@ -3,7 +3,7 @@ use Rattle.std.proofs.Common.{◌≡◌, ℕ, suc, List, [], ◌∷◌, ◌++◌
 use Rattle.host_parser.specs.declared.script.NodeId.{NodeId}
 use Rattle.host_parser.specs.declared.script.Node.{Node}
 use Rattle.host_parser.specs.Grammar.{Sum, Listed, single, comma, Passed, unlisted, passed, passed_more, Arguments, none, listed}
-use Rattle.host_parser.specs.Shows.{SumShows, ListedShows, PassedShow, ArgumentsShow}
+use Rattle.host_parser.specs.Shows.{ListedShows, PassedShow, ArgumentsShow}
 use Rattle.embed_script.specs.declared.value.Value.{Value}
 use Rattle.embed_script.specs.Ends.{and_then}
 use Rattle.embed_script.specs.Evaluation.{Bindings, Answer, Answers, sum_value, listed_values, passed_values, arguments_values}

@@ -1,6 +1,6 @@
-use Rattle.std.proofs.Common.{◌≡◌, false, get_or, subst, ap, ◌∙◌, arith, rules}
+use Rattle.std.proofs.Common.{◌≡◌, false, get_or, subst, sym, ap, ◌∙◌, arith, rules}
 use Rattle.embed_cmd.specs.Transcript.{is_longer, most_module_bytes}
-use Rattle.embed_cmd.proofs.AskedReads.{long_in_modules, failed_in_modules, short_module}
+use Rattle.embed_cmd.proofs.AskedReads.{long_in_modules, failed_in_modules, short_module, there_more}
 use Rattle.embed_cmd.proofs.FilesOf.{next_file}
 use Rattle.embed_cmd.proofs.asked_files.read_modules.Goals as goal
 
@@ -30,5 +30,8 @@ loop-module-preserved g c =
       taken = omega (arith, c.in-Ok.ensures.taken_stays, c.loop-module.invariant.taken);
       named = next_file told (g.F.Files.content c.loop-module.files) modules i c.module-item.result c.loop-module.read.items c.push.new.self.items _ c.as_str-in-Ok.result.now c.as_str.result.now
           c.loop-module-test.true c.module-item.is c.loop-module.invariant.named c.loop-module.invariant.contents c.as_str-in-Ok.ensures c.as_str.ensures c.in_ok-name-in-Ok.ensures c.in-Ok.ensures.whole c.in_ok-push-in-Ok.ensures.items;
+      absent = λ name. c.in-Ok.ensures.absent_stays name ∙ c.loop-module.invariant.absent name;
+      there = there_more (g.F.Files.absent c.args.files.now) modules i c.module-item.result c.loop-module-test.true c.loop-module.invariant.there
+          (sym (c.loop-module.invariant.absent _ ∙ ap (g.F.Files.absent c.args.files.now) is) ∙ c.in-Ok.ensures.there);
       left = c.loop-module.invariant.left ∙ short_module told modules i c.module-item.result c.loop-module-test.true short;
     }

@@ -1,6 +1,7 @@
 -- No module so far was too long, no read failed, and the files so far are those of the modules so far.
 use Rattle.std.proofs.Common.{◌≡◌, ℕ, List, ◌≤◌, drop, take}
 use Rattle.embed_cmd.specs.Transcript.{first_long, module_files}
+use Rattle.embed_cmd.specs.Headline.{AreThere}
 use Rattle.embed_cmd.specs.AskedFiles.{AreFilesOf}
 use Rattle.embed_cmd.proofs.asked_files.read_modules.Given as goal
 
@@ -11,5 +12,7 @@ invariant-loop-module g l = record {
   failed : g.F.Files.failed l.files ≡ g.F.Files.failed l.initial.files;
   taken : g.F.Files.taken l.initial.files ≤ g.F.Files.taken l.files;
   named : AreFilesOf (g.F.Files.content l.initial.files) (take l.module-index l.modules) l.read.items;
+  absent : (name : List ℕ) → g.F.Files.absent l.files name ≡ g.F.Files.absent l.initial.files name;
+  there : AreThere (g.F.Files.absent l.initial.files) (module_files (take l.module-index l.modules));
   left : first_long (g.F.Files.content l.initial.files) (module_files l.modules) ≡ first_long (g.F.Files.content l.initial.files) (module_files (drop l.module-index l.modules));
 }

@@ -1,4 +1,4 @@
-use Rattle.std.proofs.Common.{subst, sym, ap, ◌∙◌}
+use Rattle.std.proofs.Common.{subst, sym, ap, inr, ◌∙◌}
 use Rattle.embed_script.specs.ModuleFiles.{AreDecodings}
 use Rattle.embed_cmd.specs.Transcript.{IsTheScriptTranscript, too_long, files_of}
 use Rattle.embed_cmd.specs.Headline.{OnTooLongStatus, IsTooLongOf}
@@ -30,3 +30,8 @@ returns-in_ok-too_long-in-Err-TooLong-clause-too_long g c =
     let long = rw c.in-Err-TooLong.field-0-is at c.in-Err-TooLong.ensures.too_long in
     let cause = long_cause c.args.asked.now (g.F.Files.content c.args.files.now) (g.F.Files.taken c.args.files.now) (g.F.Files.taken c.read_asked.new.files) c.in-Err-TooLong.path long in
     subst (λ t. OnTooLongStatus t.status (IsTooLongOf (files_of c.args.asked.now) (g.F.Files.content c.args.files.now) (g.F.Files.taken c.args.files.now) (g.F.Files.taken c.read_asked.new.files))) (sym c.in_ok-too_long-in-Err-TooLong.ensures) cause
+
+pub returns-in_ok-too_long-in-Err-TooLong-clause-there : goal.returns-in_ok-too_long-in-Err-TooLong-clause-there
+returns-in_ok-too_long-in-Err-TooLong-clause-there g c =
+    let long = rw c.in-Err-TooLong.field-0-is at c.in-Err-TooLong.ensures.too_long in
+    inr (long_cause c.args.asked.now (g.F.Files.content c.args.files.now) (g.F.Files.taken c.args.files.now) (g.F.Files.taken c.read_asked.new.files) c.in-Err-TooLong.path long)

@@ -1,8 +1,8 @@
-use Rattle.std.proofs.Common.{◌≡◌, ◌∙◌, ap, arith, length}
+use Rattle.std.proofs.Common.{arith}
 use Rattle.std.proofs.lemmas.Result.{err_from_is_err_and}
 use Rattle.embed_script.specs.Ends.{at_place}
 use Rattle.embed_script.specs.Functions.{words_of}
-use Rattle.embed_script.proofs.Arguments.{next_word, end_of_words, all_words}
+use Rattle.embed_script.proofs.Arguments.{next_word, end_of_words}
 use Rattle.embed_script.proofs.convert.words.Goals as goal
 
 pub returns-in_err-word : goal.returns-in_err-word

@@ -1,5 +1,5 @@
 -- The words so far, and those of the parameters that are left.
-use Rattle.std.proofs.Common.{◌≡◌, ◌≤◌, ◌-◌, drop}
+use Rattle.std.proofs.Common.{◌≡◌, ◌-◌, drop}
 use Rattle.embed_script.specs.Ends.{at_place}
 use Rattle.embed_script.specs.Functions.{words_of}
 use Rattle.embed_script.proofs.Arguments.{after_words}

@@ -1,4 +1,4 @@
-use Rattle.std.proofs.Common.{◌≡◌, ◌∙◌, ap, sym, subst, Ok, Some}
+use Rattle.std.proofs.Common.{◌∙◌, ap, sym, subst, Ok, Some}
 use Rattle.std.specs.Option.{option_map, option_copied}
 use Rattle.std.specs.HashMap.{get_by_text}
 use Rattle.embed_script.specs.Evaluation.{named}

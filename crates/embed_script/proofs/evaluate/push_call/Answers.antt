@@ -1,8 +1,7 @@
-use Rattle.std.proofs.Common.{◌≡◌, ◌-◌, ◌++◌, ◌∷◌, [], ◌∙◌, sym, ap, map, take, length, arith, append_assoc, reverse, refl}
+use Rattle.std.proofs.Common.{◌-◌, ◌++◌, ◌∙◌, ap, map, arith, reverse}
 use Rattle.std.proofs.Math.Seq.{take-length}
 use Rattle.embed_script.specs.declared.evaluate.Task.TheVariants as tasks
-use Rattle.embed_script.specs.Tasks.{top_first}
-use Rattle.embed_script.proofs.Chains.{pushed_argument, call_pushed}
+use Rattle.embed_script.proofs.Chains.{pushed_argument}
 use Rattle.embed_script.proofs.evaluate.push_call.Goals as goal
 
 pub loop-at-init : goal.loop-at-init

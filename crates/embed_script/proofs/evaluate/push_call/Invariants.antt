@@ -1,7 +1,7 @@
 -- What is on top, under the tasks of the arguments that are left, is the whole call's tasks.
 use Rattle.std.proofs.Common.{◌≡◌, ◌≤◌, ◌++◌, length, map, take}
 use Rattle.embed_script.specs.declared.evaluate.Task.TheVariants as tasks
-use Rattle.embed_script.specs.Tasks.{top_first, call_tasks}
+use Rattle.embed_script.specs.Tasks.{top_first}
 use Rattle.embed_script.proofs.evaluate.push_call.Given as goal
 
 abbrev pub invariant-loop-at : goal.invariant-loop-at

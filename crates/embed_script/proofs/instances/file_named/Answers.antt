@@ -1,4 +1,4 @@
-use Rattle.std.proofs.Common.{◌≡◌, true, false, length, arith}
+use Rattle.std.proofs.Common.{◌≡◌, false}
 use Rattle.std.specs.Str.{bytes_eq}
 use Rattle.embed_script.specs.Functions.{decoded_of}
 use Rattle.embed_script.proofs.Loads.{first_file, file_passed}

@@ -1,5 +1,5 @@
 -- The last values of a call, and what the call makes of them.
-use Rattle.std.proofs.Common.{◌≡◌, ◌-◌, ◌∷◌, ◌∙◌, suc, length, reverse, take, drop, subst, sym, ap, refl, arith, Ok}
+use Rattle.std.proofs.Common.{◌≡◌, ◌-◌, ◌∷◌, ◌∙◌, suc, length, reverse, drop, subst, sym, ap, refl, arith, Ok}
 use Rattle.std.proofs.lemmas.List.{length-take}
 use Rattle.embed_script.specs.Evaluation.{called}
 use Rattle.embed_script.specs.Tasks.{perform, Fits, Steps}

@@ -1,5 +1,5 @@
 -- What the node's form tells of the expression that it shows.
-use Rattle.std.proofs.Common.{rules, ◌≡◌, suc, ◌<◌, ◌+◌, ◌++◌, ◌∷◌, ap, ◌∙◌, length, refl, subst, sym, None, inl, inr, Vec, Global, pos, Ok}
+use Rattle.std.proofs.Common.{rules, suc, ◌<◌, ◌+◌, ◌++◌, ◌∷◌, ap, ◌∙◌, length, refl, subst, sym, None, inl, inr, Vec, Global, pos, Ok}
 use Rattle.std.proofs.lemmas.List.{length-reverse}
 use Rattle.std.proofs.lemmas.Option.{slice_get_read}
 use Rattle.embed_script.specs.declared.value.Value.TheVariants as values

@@ -1,4 +1,4 @@
-use Rattle.std.proofs.Common.{◌≡◌, ◌∙◌, ap, sym, subst, length}
+use Rattle.std.proofs.Common.{◌∙◌, ap, sym, subst, length}
 use Rattle.wasm_machine.specs.Invocations.{TakesArguments}
 use Rattle.embed_script.specs.Tasks.{function_of}
 use Rattle.embed_script.proofs.Arguments.{placed_count, takes}
