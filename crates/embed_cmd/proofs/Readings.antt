@@ -14,7 +14,7 @@ use Rattle.embed_script.specs.ModuleFiles.{AreDecodings}
 use Rattle.embed_cmd.specs.declared.words.Asked.{Asked}
 use Rattle.embed_cmd.specs.Transcript.{Contents, AskedFile, IsOfSome, IsAsked, files_of, first_long, IsRunTranscript, IsTheAskedTranscript, IsScriptText, IsScriptTranscript, IsTheScriptTranscript, refused, too_long}
 use Rattle.embed_cmd.specs.AskedFiles.{IsLongPath, AreFilesOf}
-use Rattle.embed_cmd.specs.Headline.{IsTooLongOf, OnTooLongStatus}
+use Rattle.embed_cmd.specs.Headline.{IsTooLongOf, OnTooLongStatus, UnlessTooLong}
 use Rattle.embed_base.specs.declared.status.Status.{Status}
 use Rattle.embed_base.specs.declared.status.Status.TheVariants as statuses
 use Rattle.embed_cmd.specs.Reading.{IsTree, IsTextEnd, IsScriptEnd}
@@ -124,3 +124,16 @@ text_ends statuses.NoMemory h = h
 pub not_too_long : (status : Status) (P : Type 0) → IsTextEnd status → OnTooLongStatus status P
 not_too_long statuses.TooLong P h = absurd h
 not_too_long _ P h = tt
+
+-- a fact that holds with each status
+pub not_long : (status : Status) (P : Type 0) → P → UnlessTooLong status P
+not_long statuses.TooLong P h = tt
+not_long statuses.Done P h = h
+not_long statuses.Uncaught P h = h
+not_long statuses.Usage P h = h
+not_long statuses.ScriptRefused P h = h
+not_long statuses.Budget P h = h
+not_long statuses.Outside P h = h
+not_long statuses.ReadFault P h = h
+not_long statuses.WriteFault P h = h
+not_long statuses.NoMemory P h = h

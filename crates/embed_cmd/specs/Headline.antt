@@ -1,5 +1,5 @@
 -- How the program's run answers the transcript of its command line.
-use Rattle.std.specs.Prelude.{◌≡◌, ◌⊎◌, ℕ, Bool, false, List, [], ◌∷◌, ◌++◌, take, Option, Some, IsSomeAnd, MatchOption}
+use Rattle.std.specs.Prelude.{◌≡◌, ◌⊎◌, ℕ, Bool, false, List, [], ◌∷◌, ◌++◌, take, Option, Some, None, IsSomeAnd, MatchOption}
 use Rattle.std.specs.Option.{option_map}
 use Rattle.embed_base.specs.declared.status.Status.{Status}
 use Rattle.embed_base.specs.declared.status.Status.TheVariants as statuses
@@ -41,11 +41,19 @@ abbrev pub UnlessReadFault : Status → Type 0 → Type 0
 UnlessReadFault statuses.ReadFault P = Unit {0}
 UnlessReadFault _ P = P
 
--- a fact that holds with every status but those of a failed read and of want of memory
-abbrev pub UnlessUnread : Status → Type 0 → Type 0
-UnlessUnread statuses.ReadFault P = Unit {0}
-UnlessUnread statuses.NoMemory P = Unit {0}
-UnlessUnread _ P = P
+-- a fact that holds with every status but that of a file that is too long
+abbrev pub UnlessTooLong : Status → Type 0 → Type 0
+UnlessTooLong statuses.TooLong P = Unit {0}
+UnlessTooLong _ P = P
+
+-- a fact that holds where a transcript was told that isn't that of a file that is too long; where a write failed, that or another
+-- fact holds
+abbrev pub IfRead : Status → Type 0 → Type 0 → Type 0
+IfRead statuses.ReadFault P Q = Unit {0}
+IfRead statuses.NoMemory P Q = Unit {0}
+IfRead statuses.TooLong P Q = Unit {0}
+IfRead statuses.WriteFault P Q = P ⊎ Q
+IfRead _ P Q = P
 
 -- a fact that holds with every status but that of a failed write
 abbrev pub UnlessWriteFault : Status → Type 0 → Type 0
@@ -85,10 +93,14 @@ abbrev pub AreThere : (List ℕ → Bool) → List AskedFile → Type 0
 AreThere absent [] = Unit {0}
 AreThere absent (file ∷ files) = (absent file.path ≡ false) × AreThere absent files
 
--- each file that is asked for is there, or one of them was too long
-abbrev pub AreThereOrLong : List (List ℕ) → (List ℕ → Bool) → Contents → ℕ → ℕ → Type 0
-AreThereOrLong words absent contents before after =
-    MatchOption (command_of words) (Unit {0}) (λ asked. AreThere absent (files_of asked) ⊎ IsTooLongOf (files_of asked) contents before after)
+-- each of these files is there, and none that tells its content passes its limit
+pub record AreReadableFiles (absent : List ℕ → Bool) (contents : Contents) (files : List AskedFile) : Type 0 where
+  pub there : AreThere absent files
+  pub short : first_long contents files ≡ None
+
+-- so are all files that are asked for
+abbrev pub AreReadable : List (List ℕ) → (List ℕ → Bool) → Contents → Type 0
+AreReadable words absent contents = MatchOption (command_of words) (Unit {0}) (λ asked. AreReadableFiles absent contents (files_of asked))
 
 abbrev pub IsTooLong : List (List ℕ) → Contents → ℕ → ℕ → Type 0
 IsTooLong words contents before after = MatchOption (command_of words) ⊥ (λ asked. IsTooLongOf (files_of asked) contents before after)

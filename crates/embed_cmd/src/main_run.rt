@@ -7,7 +7,7 @@ ghost use Rattle.embed_script.specs.Functions.{Modules};
 ghost use Rattle.embed_script.specs.ModuleFiles.{AreDecodings};
 ghost use Rattle.embed_cmd.specs.Transcript.{IsScriptText, IsTheScriptTranscript, IsTheAskedTranscript, IsAsked, IsOfSome, files_of, IsTheTranscript, TellsAll, most_script_bytes, too_long, refused, usage};
 ghost use Rattle.embed_cmd.specs.Reading.{IsTree, IsTextEnd, IsScriptEnd, IsTranscriptEnd, OnRead, UnlessRead};
-ghost use Rattle.embed_cmd.specs.Headline.{with_more, OnEnd, OnReadFault, OnWriteFault, OnNoMemory, OnUsage, OnTooLongStatus, UnlessReadFault, UnlessWriteFault, UnlessUnread, WritesAll, WritesPrefix, IsReadFault, IsTooLong, IsTooLongOf, AreThere, AreThereOrLong};
+ghost use Rattle.embed_cmd.specs.Headline.{with_more, OnEnd, OnReadFault, OnWriteFault, OnNoMemory, OnUsage, OnTooLongStatus, UnlessReadFault, UnlessWriteFault, UnlessTooLong, IfRead, WritesAll, WritesPrefix, IsReadFault, IsTooLong, IsTooLongOf, AreReadable, AreReadableFiles};
 
 use crate::asked_files::{Unread, read_asked};
 use crate::words::{Asked, read_words};
@@ -120,7 +120,7 @@ fn asked_transcript<F: Files>(
     ensures exact { IfOk result (λ t. ((path : List ℕ) → IsAsked asked.now path → IsSome (F.content files.old path)) → IsTheAskedTranscript asked.now (F.content files.old) t) }
     ensures end { IfOk result (λ t. IsScriptEnd t.status) }
     ensures too_long { IfOk result (λ t. OnTooLongStatus t.status (IsTooLongOf (files_of asked.now) (F.content files.old) (F.taken files.old) (F.taken files.new))) }
-    ensures there { OnOk result (AreThere (F.absent files.old) (files_of asked.now) ⊎ IsTooLongOf (files_of asked.now) (F.content files.old) (F.taken files.old) (F.taken files.new)) }
+    ensures readable { IfOk result (λ t. UnlessTooLong t.status (AreReadableFiles (F.absent files.old) (F.content files.old) (files_of asked.now))) }
 
     ensures read_rose { OnRead result (Rose (F.faults files.old) (F.faults files.new)) }
     ensures read_named { OnRead result (IsOfSome (λ file. F.failed files.new ≡ Some file.path) (files_of asked.now)) }
@@ -157,7 +157,7 @@ fn command_transcript<F: Files>(
     ensures end { IfOk result (λ t. IsTranscriptEnd t.status) }
     ensures usage_only { IfOk result (λ t. OnUsage t.status (command_of (texts_of words.now) ≡ None)) }
     ensures too_long { IfOk result (λ t. OnTooLongStatus t.status (IsTooLong (texts_of words.now) (F.content files.old) (F.taken files.old) (F.taken files.new))) }
-    ensures there { OnOk result (AreThereOrLong (texts_of words.now) (F.absent files.old) (F.content files.old) (F.taken files.old) (F.taken files.new)) }
+    ensures readable { IfOk result (λ t. UnlessTooLong t.status (AreReadable (texts_of words.now) (F.absent files.old) (F.content files.old))) }
 
     ensures read { OnRead result (IsReadFault (texts_of words.now) (F.faults files.old) (F.faults files.new) (F.failed files.new)) }
     ensures rose_read { UnlessRead result (¬ (F.faults files.old < F.faults files.new)) }
@@ -212,8 +212,9 @@ pub fn run_main<F: Files, O: Sink>(
     ensures read_always { UnlessReadFault result (¬ (F.faults files.old < F.faults files.new)) }
     ensures failed_stays { UnlessReadFault result (F.failed files.new ≡ F.failed files.old) }
 
-    // Unless a read failed or memory ran out, each file that was asked for is there, or one of them is too long.
-    ensures there { UnlessUnread result (AreThereOrLong (texts_of words.now) (F.absent files.old) (F.content files.old) (F.taken files.old) (F.taken files.new)) }
+    // A run or the refusal of a script comes only where each file that was asked for is there, and none that tells its content
+    // passes its limit. Where a write failed, that is so, or what was being written tells the file that is too long.
+    ensures readable { IfRead result (AreReadable (texts_of words.now) (F.absent files.old) (F.content files.old)) (IsTooLong (texts_of words.now) (F.content files.old) (F.taken files.old) (F.taken files.new)) }
 
     // A write fault comes only where one was counted, and always where one was counted.
     ensures write_cause { OnWriteFault result (Rose (O.faults out.old) (O.faults out.new)) }

@@ -1,8 +1,8 @@
-use Rattle.std.proofs.Common.{subst, sym, ap, inr, ◌∙◌}
+use Rattle.std.proofs.Common.{subst, sym, ap, ◌∙◌}
 use Rattle.embed_script.specs.ModuleFiles.{AreDecodings}
 use Rattle.embed_cmd.specs.Transcript.{IsTheScriptTranscript, too_long, files_of}
-use Rattle.embed_cmd.specs.Headline.{OnTooLongStatus, IsTooLongOf}
-use Rattle.embed_cmd.proofs.Readings.{read_all, refused_file, first_of, long_cause, text_ends, not_too_long}
+use Rattle.embed_cmd.specs.Headline.{OnTooLongStatus, IsTooLongOf, UnlessTooLong, AreReadableFiles}
+use Rattle.embed_cmd.proofs.Readings.{read_all, refused_file, first_of, long_cause, text_ends, not_too_long, not_long}
 use Rattle.embed_cmd.proofs.main_run.asked_transcript.Goals as goal
 
 pub returns-in_ok-transcript-in-Ok-clause-exact : goal.returns-in_ok-transcript-in-Ok-clause-exact
@@ -31,7 +31,10 @@ returns-in_ok-too_long-in-Err-TooLong-clause-too_long g c =
     let cause = long_cause c.args.asked.now (g.F.Files.content c.args.files.now) (g.F.Files.taken c.args.files.now) (g.F.Files.taken c.read_asked.new.files) c.in-Err-TooLong.path long in
     subst (λ t. OnTooLongStatus t.status (IsTooLongOf (files_of c.args.asked.now) (g.F.Files.content c.args.files.now) (g.F.Files.taken c.args.files.now) (g.F.Files.taken c.read_asked.new.files))) (sym c.in_ok-too_long-in-Err-TooLong.ensures) cause
 
-pub returns-in_ok-too_long-in-Err-TooLong-clause-there : goal.returns-in_ok-too_long-in-Err-TooLong-clause-there
-returns-in_ok-too_long-in-Err-TooLong-clause-there g c =
-    let long = rw c.in-Err-TooLong.field-0-is at c.in-Err-TooLong.ensures.too_long in
-    inr (long_cause c.args.asked.now (g.F.Files.content c.args.files.now) (g.F.Files.taken c.args.files.now) (g.F.Files.taken c.read_asked.new.files) c.in-Err-TooLong.path long)
+pub returns-in_ok-too_long-in-Err-TooLong-clause-readable : goal.returns-in_ok-too_long-in-Err-TooLong-clause-readable
+returns-in_ok-too_long-in-Err-TooLong-clause-readable g c =
+    subst (λ t. UnlessTooLong t.status (AreReadableFiles (g.F.Files.absent c.args.files.now) (g.F.Files.content c.args.files.now) (files_of c.args.asked.now))) (sym c.in_ok-too_long-in-Err-TooLong.ensures) tt
+
+pub returns-in_ok-transcript-in-Ok-clause-readable : goal.returns-in_ok-transcript-in-Ok-clause-readable
+returns-in_ok-transcript-in-Ok-clause-readable g c =
+    not_long c.in_ok-transcript-in-Ok.transcript.status _ (record { there = c.in-Ok.ensures.there; short = c.in-Ok.ensures.not_longer })
