@@ -1,23 +1,8 @@
+use super::{owned, told};
 use crate::run_main;
-use embed_base::{MemFiles, MemSink, Status, SureFiles, SureSink};
+use embed_base::{MemFiles, MemSink, SureFiles, SureSink};
 use std::alloc::Global;
-use std::str;
 use std::test::Fail;
-
-// The words of a command line.
-fn owned(alloc: Global, words: &[&str]) -> Result<Vec<String>, Fail> {
-    let mut all = Vec::new(alloc);
-    for word in words {
-        all.push(String::from_str(alloc, word)?)?;
-    }
-    Ok(all)
-}
-
-// A status and the bytes written, as one text.
-fn told(alloc: Global, status: Status, bytes: &[u8]) -> Result<String, Fail> {
-    let text = str::from_utf8(bytes).map_err(|_| Fail::from("not UTF-8"))?;
-    Ok(format!(in alloc; "{status:?}|{text}")?)
-}
 
 // What a script gives with a word for its budget.
 fn budgeted(alloc: Global, steps: &str, script: &str) -> Result<String, Fail> {

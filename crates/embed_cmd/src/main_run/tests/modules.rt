@@ -1,7 +1,7 @@
+use super::{owned, told};
 use crate::run_main;
-use embed_base::{Status, SureFiles, SureSink};
+use embed_base::{SureFiles, SureSink};
 use std::alloc::Global;
-use std::str;
 use std::test::Fail;
 
 // A module with one function, `add`, that adds its two parameters.
@@ -39,10 +39,10 @@ static FLOATING: [u8; 15] = [
 
 // What a script gives with a word for its budget, over a module `m` with these bytes, as one text.
 fn over(alloc: Global, steps: &str, bytes: &[u8], script: &str) -> Result<String, Fail> {
-    let mut words = Vec::new(alloc);
-    for word in ["run", "--module=m=m.wasm", "s.js", steps] {
-        words.push(String::from_str(alloc, word)?)?;
-    }
+    let words = owned(
+        alloc,
+        ["run", "--module=m=m.wasm", "s.js", steps].as_slice(),
+    )?;
     let mut pairs = Vec::new(alloc);
     let name = String::from_str(alloc, "s.js")?;
     pairs.push((name, Vec::from_slice(alloc, script.as_bytes())?))?;
@@ -51,8 +51,7 @@ fn over(alloc: Global, steps: &str, bytes: &[u8], script: &str) -> Result<String
     let mut files = SureFiles::new(pairs);
     let mut out = SureSink::new(alloc);
     let status = run_main(alloc, words.as_slice(), &mut files, &mut out);
-    let text = str::from_utf8(out.bytes()).map_err(|_| Fail::from("not UTF-8"))?;
-    Ok(format!(in alloc; "{status:?}|{text}")?)
+    told(alloc, status, out.bytes())
 }
 
 // The item that binds a name to an export of `m`.
