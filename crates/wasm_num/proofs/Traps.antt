@@ -7,10 +7,10 @@ use Rattle.std.proofs.lemmas.Nat.{pow_pos}
 use Rattle.std.proofs.lemmas.Bool.{lt-ltb, le-ltb, ne_eqb, cases_lt}
 use Rattle.wasm_syntax.specs.declared.trap.Trap.{Trap}
 use Rattle.wasm_syntax.specs.declared.trap.Trap.TheVariants.{DivideByZero, Overflow}
-use Rattle.wasm_num.specs.declared.num.Num.{Num}
-use Rattle.wasm_num.specs.declared.num.Num.TheVariants.{I32, I64}
-use Rattle.wasm_num.specs.declared.num.BinOp.{BinOp}
-use Rattle.wasm_num.specs.declared.num.BinOp.TheVariants.{Add, Sub, Mul, DivS, DivU, RemS, RemU, And, Or, Xor, Shl, ShrS, ShrU, Rotl, Rotr}
+use Rattle.wasm_syntax.specs.declared.numbers.Num.{Num}
+use Rattle.wasm_syntax.specs.declared.numbers.Num.TheVariants.{I32, I64}
+use Rattle.wasm_syntax.specs.declared.numbers.BinOp.{BinOp}
+use Rattle.wasm_syntax.specs.declared.numbers.BinOp.TheVariants.{Add, Sub, Mul, DivS, DivU, RemS, RemU, And, Or, Xor, Shl, ShrS, ShrU, Rotl, Rotr}
 use Rattle.wasm_num.specs.Integers.{integer_binary, binary_of, is_division, width_of, number_of, signed, unsigned, signed_of, result_at_width_of}
 
 -- a test of the divisor, before what can't be that trap

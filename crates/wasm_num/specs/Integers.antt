@@ -5,16 +5,16 @@ use Rattle.std.specs.Prelude.{ℕ, zero, suc, ◌+◌, ◌-◌, ◌*◌, ◌/◌
 use Rattle.std.specs.List.{prefix_len, suffix_len, count_by}
 use Rattle.wasm_syntax.specs.declared.trap.Trap.{Trap}
 use Rattle.wasm_syntax.specs.declared.trap.Trap.TheVariants.{DivideByZero, Overflow}
-use Rattle.wasm_num.specs.declared.num.Num.{Num}
-use Rattle.wasm_num.specs.declared.num.Num.TheVariants.{I32, I64}
-use Rattle.wasm_num.specs.declared.num.BinOp.{BinOp}
-use Rattle.wasm_num.specs.declared.num.BinOp.TheVariants.{Add, Sub, Mul, DivS, DivU, RemS, RemU, And, Or, Xor, Shl, ShrS, ShrU, Rotl, Rotr}
-use Rattle.wasm_num.specs.declared.num.UnOp.{UnOp}
-use Rattle.wasm_num.specs.declared.num.UnOp.TheVariants.{Clz, Ctz, Popcnt, Extend8S, Extend16S, Extend32S}
-use Rattle.wasm_num.specs.declared.num.CmpOp.{CmpOp}
-use Rattle.wasm_num.specs.declared.num.CmpOp.TheVariants.{Eq, Ne, LtS, LtU, GtS, GtU, LeS, LeU, GeS, GeU}
-use Rattle.wasm_num.specs.declared.num.ConvOp.{ConvOp}
-use Rattle.wasm_num.specs.declared.num.ConvOp.TheVariants.{Wrap, ExtendS, ExtendU}
+use Rattle.wasm_syntax.specs.declared.numbers.Num.{Num}
+use Rattle.wasm_syntax.specs.declared.numbers.Num.TheVariants.{I32, I64}
+use Rattle.wasm_syntax.specs.declared.numbers.BinOp.{BinOp}
+use Rattle.wasm_syntax.specs.declared.numbers.BinOp.TheVariants.{Add, Sub, Mul, DivS, DivU, RemS, RemU, And, Or, Xor, Shl, ShrS, ShrU, Rotl, Rotr}
+use Rattle.wasm_syntax.specs.declared.numbers.UnOp.{UnOp}
+use Rattle.wasm_syntax.specs.declared.numbers.UnOp.TheVariants.{Clz, Ctz, Popcnt, Extend8S, Extend16S, Extend32S}
+use Rattle.wasm_syntax.specs.declared.numbers.CmpOp.{CmpOp}
+use Rattle.wasm_syntax.specs.declared.numbers.CmpOp.TheVariants.{Eq, Ne, LtS, LtU, GtS, GtU, LeS, LeU, GeS, GeU}
+use Rattle.wasm_syntax.specs.declared.numbers.ConvOp.{ConvOp}
+use Rattle.wasm_syntax.specs.declared.numbers.ConvOp.TheVariants.{Wrap, ExtendS, ExtendU}
 
 -- ---- readings of a number of width N
 
@@ -132,6 +132,17 @@ extend_s M N i = unsigned N (signed M i)
 abbrev pub iextend_s : ℕ → ℕ → ℕ → ℕ
 iextend_s M N i = extend_s M N (wrap M i)
 
+-- ---- tests
+
+-- ieqz_N(i)
+abbrev pub ieqz : ℕ → ℕ → Bool
+ieqz N a = a == 0
+
+-- the number that a test or a comparison gives: 1 where it holds, and else 0
+abbrev pub of_test : Bool → ℕ
+of_test true = 1
+of_test false = 0
+
 -- ---- the operations by their names
 
 unfoldable pub integer_binary : BinOp → ℕ → ℕ → ℕ → Result ℕ Trap
@@ -196,7 +207,7 @@ abbrev pub result_at_width_of : Num → Result ℕ Trap → Result Num Trap
 result_at_width_of a (Ok n) = Ok (at_width_of a n)
 result_at_width_of a (Err trap) = Err trap
 
--- The four operations. The operands of the first and the third have one width.
+-- The five operations. The operands of the first and the third have one width.
 unfoldable pub binary_of : BinOp → Num → Num → Result Num Trap
 binary_of op a b = result_at_width_of a (integer_binary op (width_of a) (number_of a) (number_of b))
 
@@ -205,6 +216,9 @@ unary_of op a = at_width_of a (integer_unary op (width_of a) (number_of a))
 
 unfoldable pub compare_of : CmpOp → Num → Num → Bool
 compare_of op a b = integer_compare op (width_of a) (number_of a) (number_of b)
+
+unfoldable pub test_of : Num → Bool
+test_of a = ieqz (width_of a) (number_of a)
 
 unfoldable pub convert_of : ConvOp → Num → Num
 convert_of Wrap a = I32 (wrap 32 (number_of a))
@@ -231,8 +245,3 @@ abbrev pub target_width_of : ConvOp → ℕ
 target_width_of Wrap = 32
 target_width_of ExtendS = 64
 target_width_of ExtendU = 64
-
--- the least width that a unary operation needs: a number extends from fewer bits than it has
-abbrev pub least_width_of : UnOp → ℕ
-least_width_of Extend32S = 64
-least_width_of _ = 32

@@ -2,10 +2,10 @@
 
 ghost use Rattle.std.specs.Prelude.{◌≡◌, ◌≤◌};
 ghost use Rattle.wasm_num.specs.Integers.{idiv_s, idiv_u, irem_s, irem_u, ishr_s, iextend_s};
-ghost use Rattle.wasm_num.specs.Integers.{integer_binary, integer_unary, integer_compare, least_width_of};
+ghost use Rattle.wasm_num.specs.Integers.{integer_binary, integer_unary, integer_compare};
+ghost use Rattle.wasm_syntax.specs.NumberTypes.{least_width_of};
 
-use crate::num::{BinOp, CmpOp, UnOp};
-use wasm_syntax::Trap;
+use wasm_syntax::{BinOp, CmpOp, Trap, UnOp};
 
 /// A binary operation by its name.
 #[tactic(auto, unfolding(crate::specs::Integers::integer_binary))]

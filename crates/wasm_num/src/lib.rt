@@ -8,17 +8,15 @@
 ghost use Rattle.std.specs.Prelude.{◌≡◌, ◌≤◌, ◌-◌, ◌^◌, ◌↔◌, ◌⊎◌, IsTrue, IfOk, IfErr, pos, negsuc, neg_ℤ};
 ghost use Rattle.wasm_num.specs.Integers.{binary_of, unary_of, compare_of, convert_of};
 ghost use Rattle.wasm_num.specs.Integers.{width_of, number_of, signed_of, is_division};
-ghost use Rattle.wasm_num.specs.Integers.{least_width_of, source_width_of, target_width_of};
+ghost use Rattle.wasm_num.specs.Integers.{source_width_of, target_width_of, test_of};
+ghost use Rattle.wasm_syntax.specs.NumberTypes.{least_width_of};
 
-pub use num::{BinOp, CmpOp, ConvOp, Num, UnOp};
 use wasm_syntax::Trap;
+pub use wasm_syntax::{BinOp, CmpOp, ConvOp, Num, UnOp};
 
 mod int32;
 mod int64;
 pub mod laws;
-mod num;
-#[cfg(test)]
-mod tests;
 
 /// The result of a binary operation, or the trap that it ends in.
 pub fn binary(op: BinOp, a: Num, b: Num) -> Result<Num, Trap>
@@ -64,8 +62,10 @@ pub fn compare(op: CmpOp, a: Num, b: Num) -> bool
 }
 
 /// Whether the number is 0 (`eqz`).
+#[tactic(auto, unfolding(crate::specs::Integers::test_of))]
 pub fn is_zero(a: Num) -> bool
-    ensures { IsTrue result ↔ (number_of a ≡ 0) }
+    ensures value { result ≡ test_of a }
+    ensures zero { IsTrue result ↔ (number_of a ≡ 0) }
 {
     match a {
         Num::I32(a) => a == 0,

@@ -1,1 +1,5 @@
 pub mod Blocks
+pub mod ValueTypes
+pub mod NumberTypes
+pub mod Sorts
+pub mod Numbering

@@ -1,7 +1,7 @@
 //! Instructions (WebAssembly Core 2.0, section 2.4), named as in the text format.
 
 use crate::types::ValType;
-use sqlite_items::Items;
+use sqlite_items::{Boxed, Items};
 
 /// The number of a block in its module. Each sequence of instructions of a module is a block: a body, a part of a `block`, `loop`
 /// or `if`, and an expression outside the bodies.
@@ -26,7 +26,17 @@ pub struct MemArg {
     pub offset: u32,
 }
 
-/// An instruction with its immediates. Labels count the enclosing blocks from the innermost on, and indices the things of their
+/// What an `if` holds.
+#[derive(Clone, Copy, PartialEq, Eq, Debug)]
+pub struct IfParts {
+    pub ty: BlockType,
+    pub body: BlockId,
+    /// An empty block where there is no `else`.
+    pub other: BlockId,
+}
+
+/// An instruction with its immediates, in 16 bytes: what doesn't fit stands behind a `Boxed`, which contracts see as the value in
+/// it. Labels count the enclosing blocks from the innermost on, and indices the things of their
 /// kind in the module, imports first. Constants and integers have no sign.
 #[derive(Debug, Drop)]
 pub enum Instr {
@@ -34,19 +44,24 @@ pub enum Instr {
     Nop,
     Block(BlockType, BlockId),
     Loop(BlockType, BlockId),
-    /// The second block is an empty one where there is no `else`.
-    If(BlockType, BlockId, BlockId),
+    If(Boxed<IfParts>),
     Br(u32),
     BrIf(u32),
     /// The labels to choose from, and the one for every greater number.
-    BrTable { labels: Items<u32>, default: u32 },
+    BrTable {
+        default: u32,
+        labels: Boxed<Items<u32>>,
+    },
     Return,
     Call(u32),
-    CallIndirect { ty: u32, table: u32 },
+    CallIndirect {
+        ty: u32,
+        table: u32,
+    },
     Drop,
     Select,
     /// `select` with its result types. A valid module has one.
-    SelectTyped(Items<ValType>),
+    SelectTyped(Boxed<Items<ValType>>),
     LocalGet(u32),
     LocalSet(u32),
     LocalTee(u32),
@@ -151,10 +166,19 @@ pub enum Instr {
     DataDrop(u32),
     MemoryCopy,
     MemoryFill,
-    TableInit { elem: u32, table: u32 },
+    TableInit {
+        elem: u32,
+        table: u32,
+    },
     ElemDrop(u32),
-    TableCopy { to: u32, from: u32 },
+    TableCopy {
+        to: u32,
+        from: u32,
+    },
     TableGrow(u32),
     TableSize(u32),
     TableFill(u32),
 }
+
+/// The room that an instruction takes in a module.
+const _: () = prove!(size_of::<Instr>() == 16);

@@ -1,4 +1,11 @@
-//! Numbers with their width, and the names of the operations on them.
+//! Numbers, and the names of the operations on them (WebAssembly Core 2.0, sections 2.3.1 and 2.4.1).
+
+/// The type of a number.
+#[derive(Clone, Copy, PartialEq, Eq, Debug)]
+pub enum NumType {
+    I32,
+    I64,
+}
 
 /// A number of the type `i32` or `i64` of WebAssembly. The types have no sign: an operation whose name
 /// ends in `_s` reads its operands in two's complement.
@@ -68,4 +75,20 @@ pub enum ConvOp {
     ExtendS,
     /// `i64.extend_i32_u`.
     ExtendU,
+}
+
+/// How many bits of a memory a load reads or a store writes.
+#[derive(Clone, Copy, PartialEq, Eq, Debug)]
+pub enum Width {
+    Bits8,
+    Bits16,
+    Bits32,
+    Bits64,
+}
+
+/// How a load makes a number of the bits that it has read: with the sign of their two's complement, or with zeros before them (`sx`).
+#[derive(Clone, Copy, PartialEq, Eq, Debug)]
+pub enum Extension {
+    Signed,
+    Unsigned,
 }
