@@ -1,7 +1,6 @@
 -- The body of a code entry, which a foreign leaf may cut.
-use Rattle.std.proofs.Common.{◌≡◌, ℕ, zero, suc, ◌+◌, ◌-◌, ◌<◌, ◌≤◌, Bool, true, false, cond, ◌&&◌, List, [], ◌∷◌, ◌++◌, length, Option, Some, None, refl, sym, ap, subst, ◌∙◌, append_assoc, length-append, arith, inl, inr, ◌⊎◌}
+use Rattle.std.proofs.Common.{◌≡◌, ℕ, zero, suc, ◌+◌, ◌<◌, Bool, true, List, [], ◌∷◌, ◌++◌, length, Option, Some, None, refl, sym, ap, subst, ◌∙◌, append_assoc, length-append, arith, inl, inr}
 use Rattle.std.proofs.lemmas.List.{append-nil}
-use Rattle.wasm_syntax.specs.declared.types.ValType.{ValType}
 use Rattle.wasm_syntax.specs.declared.instructions.Instr.{Instr}
 use Rattle.wasm_syntax.specs.declared.instructions.BlockId.{BlockId}
 use Rattle.wasm_grammar.specs.declared.built.Foreign.TheVariants as w
@@ -15,16 +14,16 @@ use Rattle.wasm_grammar.specs.declared.tokens.Token.TheVariants as t
 use Rattle.wasm_grammar.specs.Forms.{Items}
 use Rattle.wasm_grammar.specs.Leaves.{with_leaf}
 use Rattle.wasm_grammar.specs.Reading.{◌>>=◌}
-use Rattle.wasm_grammar.specs.Threads.{Making, make_each, at_end}
+use Rattle.wasm_grammar.specs.Threads.{Making, make_each}
 use Rattle.wasm_grammar.specs.Types.{TypeTree, known, strange, make_type}
 use Rattle.wasm_grammar.specs.Instructions.{BlockTree, empty, one, index, make_block_type, TokenTree, make_token, IsToken, token_in}
 use Rattle.wasm_grammar.specs.Instructions as u
-use Rattle.wasm_grammar.specs.Code.{Code, tokens, make_block, make_code, IsExpression, make_expression, Body, whole, cut, IsCut, IsBody, make_body}
-use Rattle.wasm_grammar.specs.Running.{State, opens, ends_as, closes, turns_as, turns, step, with_built, is_last, begins_simd, cut_at, run, start, expression_in, body_in}
-use Rattle.wasm_grammar.proofs.Steps.{bind_some, chosen, some_is}
-use Rattle.wasm_grammar.proofs.Threads.{Took, Reads, TookAll, ReadsAll, at_end_is}
+use Rattle.wasm_grammar.specs.Code.{Code, tokens, make_block, IsExpression, Body, whole, cut, IsBody, make_body}
+use Rattle.wasm_grammar.specs.Running.{State, ends_as, closes, turns_as, turns, step, with_built, cut_at, run, start, expression_in, body_in}
+use Rattle.wasm_grammar.proofs.Steps.{bind_some, some_is}
+use Rattle.wasm_grammar.proofs.Threads.{TookAll, ReadsAll, at_end_is}
 use Rattle.wasm_grammar.proofs.TokenLaws.{token_reads}
-use Rattle.wasm_grammar.proofs.Trees.{goes, grown, goes_again, goes_found}
+use Rattle.wasm_grammar.proofs.Trees.{goes, goes_again, goes_found}
 use Rattle.wasm_grammar.proofs.Runs.{Ran, Cut, ended_block, at_end_of, run_takes, ran_made, run_expression, not_last, no_simd, tokens_append, items_long}
 
 -- ---- what was passed is the front of code

@@ -1,14 +1,14 @@
 -- What a decoder tells of bytes, by what is read of them.
-use Rattle.std.proofs.Common.{◌≡◌, ℕ, ◌-◌, List, length, Option, Some, None, refl, sym, ap, subst, ◌∙◌, inl, inr, ◌⊎◌}
+use Rattle.std.proofs.Common.{◌≡◌, ℕ, List, Option, Some, None, refl, sym, ap, subst, ◌∙◌}
 use Rattle.std.specs.Prelude.{IfSome}
 use Rattle.wasm_syntax.specs.declared.module.Module.{Module}
 use Rattle.wasm_grammar.specs.declared.built.Foreign.{Foreign}
 use Rattle.wasm_grammar.specs.declared.built.Leaf.{Leaf}
 use Rattle.wasm_grammar.specs.declared.built.Built.{Built}
 use Rattle.wasm_grammar.specs.declared.held.Parts.{Parts}
-use Rattle.wasm_grammar.specs.Module.{ModuleTree, make_parts, module_with, module_of, first_leaf, Spells, module_in}
+use Rattle.wasm_grammar.specs.Module.{ModuleTree, make_parts, module_with, Spells, module_in}
 use Rattle.wasm_grammar.specs.Decoding.{Decoded, module_is, malformed, outside, Decodes, by_leaf, read_as}
-use Rattle.wasm_grammar.proofs.Steps.{some_is, none_some}
+use Rattle.wasm_grammar.proofs.Steps.{none_some}
 use Rattle.wasm_grammar.proofs.Whole.{module_takes, module_again}
 
 first_found : (bytes : List ℕ) (p : Parts) (b : Built) (first : Option Leaf) (tree : ModuleTree) → Spells bytes tree → (p, b) ≡ make_parts tree → b.first ≡ first → Decodes bytes (by_leaf bytes p b first)

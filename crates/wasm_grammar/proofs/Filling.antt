@@ -1,6 +1,5 @@
 -- The laws of globals, code entries, segments and sections.
-use Rattle.std.proofs.Common.{◌≡◌, ℕ, ◌+◌, ◌^◌, Bool, true, false, cond, eqb, ltb, List, [], ◌∷◌, ◌++◌, length, Option, Some, None, refl, sym, ap, subst, ◌∙◌}
-use Rattle.wasm_syntax.specs.declared.types.ValType.{ValType}
+use Rattle.std.proofs.Common.{◌≡◌, ℕ, ◌+◌, ◌^◌, Bool, true, cond, eqb, ltb, List, [], ◌∷◌, ◌++◌, Some, None, refl, sym, ap, subst, ◌∙◌}
 use Rattle.wasm_syntax.specs.declared.types.ValType.TheVariants as v
 use Rattle.wasm_syntax.specs.declared.instructions.BlockId.{BlockId}
 use Rattle.wasm_syntax.specs.declared.module.Mode.TheVariants as m
@@ -11,11 +10,8 @@ use Rattle.wasm_grammar.specs.Forms.{Form}
 use Rattle.wasm_grammar.specs.Leb128.{IsU32}
 use Rattle.wasm_grammar.specs.Binary.{IsVector, IsSized, IsBytes, IsCustom}
 use Rattle.wasm_grammar.specs.Choices.{Such, such_in}
-use Rattle.wasm_grammar.specs.Reading.{◌>>=◌, u32_at, part_at, custom_at}
-use Rattle.wasm_grammar.specs.Threads.{Making, make_same, make_each, make_of, Reader, same_in, of_in, vector_in}
-use Rattle.wasm_grammar.specs.Types.{TypeTree, make_type, known, strange}
-use Rattle.wasm_grammar.specs.Code.{Code, make_block, IsExpression, make_expression}
-use Rattle.wasm_grammar.specs.Running.{expression_in}
+use Rattle.wasm_grammar.specs.Reading.{u32_at, part_at, custom_at}
+use Rattle.wasm_grammar.specs.Threads.{Making, make_same, make_each, Reader, same_in}
 use Rattle.wasm_grammar.specs.Functions.{IsGlobal, global_of, make_global, global_in, LocalTree, IsLocal, make_local, local_in, local_count, few_locals, IsLocals, locals_in, IsCodeEntry, entry_of, make_entry, entry_in}
 use Rattle.wasm_grammar.specs.Segments.{active, passive, declared, mode_at, make_mode, IsFirst, IsIndexed, first_in, indexed_in, funcs, exprs, make_func_ref, of_type, make_refs, IsFuncs, func_exprs, IsFuncExprs, IsExprs, func_ref_in, funcs_in, func_exprs_in, exprs_in, IsElem, elem_of, make_elem, elem_in, IsData, data_of, make_data, data_in}
 use Rattle.wasm_grammar.specs.Sections.{Section, IsSection, make_section, custom_in, filling, number_in, section_in}

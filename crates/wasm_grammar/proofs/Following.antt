@@ -1,5 +1,5 @@
 -- The loop that reads sections in their order.
-use Rattle.std.proofs.Common.{◌≡◌, ℕ, zero, suc, ◌+◌, ◌-◌, ◌<◌, ◌≤◌, Bool, true, false, cond, ◌&&◌, List, [], ◌∷◌, length, Option, Some, None, refl, sym, subst, ◌∙◌, arith}
+use Rattle.std.proofs.Common.{◌≡◌, ℕ, suc, ◌+◌, ◌-◌, ◌<◌, ◌≤◌, true, false, List, [], ◌∷◌, length, Option, Some, None, refl, sym, subst, ◌∙◌, arith}
 use Rattle.std.proofs.lemmas.List.{nil_from_length}
 use Rattle.wasm_grammar.specs.declared.built.Built.{Built}
 use Rattle.wasm_grammar.specs.declared.held.Held.{Held}
@@ -8,8 +8,8 @@ use Rattle.wasm_grammar.specs.declared.fault.ReadError.{ReadError}
 use Rattle.wasm_grammar.specs.declared.fault.ReadError.TheVariants as errors
 use Rattle.wasm_grammar.specs.Answers.{Refuses}
 use Rattle.wasm_grammar.specs.Reading.{◌>>=◌}
-use Rattle.wasm_grammar.specs.Sections.{may_follow, last_of, section_in, held_place, held_in_order, all_in}
-use Rattle.wasm_grammar.specs.Module.{hold, hold_all, held_of}
+use Rattle.wasm_grammar.specs.Sections.{may_follow, last_of, section_in, held_place, all_in}
+use Rattle.wasm_grammar.specs.Module.{hold, held_of}
 
 held_more : (p : Parts) (last : ℕ) (h : Held) (r : Option (List Held × Built)) → may_follow last (held_place h) ≡ true → held_of p last (r >>= λ xs. Some (h ∷ xs.0, xs.1)) ≡ held_of (hold p h) (last_of last (held_place h)) r
 held_more p last h None e = refl

@@ -3,8 +3,8 @@ use Rattle.std.proofs.Common.{◌≡◌, ℕ, suc, ◌+◌, ◌-◌, ◌*◌, �
 use Rattle.std.proofs.Math.Nat.{pow-succ'}
 use Rattle.std.proofs.lemmas.Bool.{ltb-false, ltb-true, le-ltb, lt-ltb, eqb-false, ne_eqb}
 use Rattle.wasm_grammar.specs.Forms.{Form, Front}
-use Rattle.wasm_grammar.specs.Leb128.{IsLeb128, IsU32, IsWord, IsSigned, IsS33}
-use Rattle.wasm_grammar.specs.Reading.{◌>>=◌, leb_at, u32_at, word_of, signed_at, s33_at}
+use Rattle.wasm_grammar.specs.Leb128.{IsLeb128, IsU32, IsWord, IsSigned, IsTypeIndex}
+use Rattle.wasm_grammar.specs.Reading.{◌>>=◌, leb_at, u32_at, word_of, signed_at, type_index_at}
 use Rattle.wasm_grammar.proofs.Steps.{bind_some, guard_not, guard_is, chosen, some_is}
 
 -- a reader of a form that builds nothing
@@ -150,15 +150,15 @@ signed_reads most half = record {
   again = λ after front rest word p. rw (groups_again front most p.number rest p.groups p.short, word_again half (128 ^ length front) p.number word p.is_word) refl;
 }
 
-pub s33_reads : ReadsPlain IsS33 s33_at
-unfolding s33_at
-s33_reads = record {
+pub type_index_reads : ReadsPlain IsTypeIndex type_index_at
+unfolding type_index_at
+type_index_reads = record {
   takes = λ after bytes x e.
       let s = bind_some (leb_at 0 1 bytes 5) (λ x. cond (ltb (x.0.0 + x.0.0) x.0.1) (cond (ltb x.0.0 (2 ^ 32)) (Some (x.0.0, x.1)) None) None) x e in
       let g = guard_is (ltb (s.0.0.0 + s.0.0.0) s.0.0.1) (cond (ltb s.0.0.0 (2 ^ 32)) (Some (s.0.0.0, s.0.1)) None) x s.2 in
       let f = guard_is (ltb s.0.0.0 (2 ^ 32)) (Some (s.0.0.0, s.0.1)) x g.1 in
       let t = groups_take bytes 5 s.0 s.1 in
-      subst (λ (y : ℕ × List ℕ). Front IsS33 after bytes y.0 y.1) (some_is _ _ f.1)
+      subst (λ (y : ℕ × List ℕ). Front IsTypeIndex after bytes y.0 y.1) (some_is _ _ f.1)
       (record { front = t.front; parts = t.parts; is_form = record { groups = t.groups; short = t.short; not_negative = subst (λ (top : ℕ). s.0.0.0 + s.0.0.0 < top) t.top_is (ltb-true _ _ g.0); fits = ltb-true _ _ f.0 } });
   again = λ after front rest n p. rw (groups_again front 5 n rest p.groups p.short, lt-ltb (n + n) (128 ^ length front) p.not_negative, lt-ltb n (2 ^ 32) p.fits) refl;
 }

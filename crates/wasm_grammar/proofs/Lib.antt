@@ -12,8 +12,11 @@ pub mod Loops
 pub mod Trees
 pub mod Runs
 pub mod Cuts
+pub mod Flat
+pub mod Numbered
 pub mod Filling
 pub mod Whole
+pub mod Counted
 pub mod Decided
 pub mod Passing
 pub mod Following

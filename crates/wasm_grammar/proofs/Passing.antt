@@ -1,5 +1,5 @@
 -- The loop that reads an expression.
-use Rattle.std.proofs.Common.{◌≡◌, ℕ, zero, suc, ◌+◌, ◌-◌, ◌<◌, ◌≤◌, Bool, true, false, cond, ◌&&◌, List, [], ◌∷◌, ◌++◌, length, reverse, Option, Some, None, refl, sym, ap, subst, ◌∙◌, ◌↔◌, IsTrue, arith}
+use Rattle.std.proofs.Common.{◌≡◌, ℕ, suc, ◌+◌, ◌-◌, ◌<◌, ◌≤◌, Bool, true, false, ◌&&◌, List, [], ◌∷◌, length, reverse, Option, Some, None, refl, sym, ap, subst, ◌∙◌, ◌↔◌, IsTrue, arith}
 use Rattle.std.proofs.lemmas.List.{length-reverse, nil_from_length}
 use Rattle.wasm_grammar.specs.declared.built.Built.{Built}
 use Rattle.wasm_grammar.specs.declared.blocks.Level.{Level}
@@ -8,7 +8,6 @@ use Rattle.wasm_grammar.specs.declared.tokens.Token.TheVariants as t
 use Rattle.wasm_grammar.specs.declared.fault.ReadError.{ReadError}
 use Rattle.wasm_grammar.specs.declared.fault.ReadError.TheVariants as errors
 use Rattle.wasm_grammar.specs.Answers.{Refuses}
-use Rattle.wasm_grammar.specs.Reading.{◌>>=◌}
 use Rattle.wasm_grammar.specs.Instructions.{token_in}
 use Rattle.wasm_grammar.specs.Running.{State, step, with_built, is_last, begins_simd, cut_at, run}
 

@@ -1,5 +1,5 @@
 -- Reading an expression with a list of open blocks, and the code that is spelled.
-use Rattle.std.proofs.Common.{◌≡◌, ℕ, zero, suc, ◌+◌, ◌-◌, ◌<◌, ◌≤◌, Bool, true, false, cond, ◌&&◌, eqb, List, [], ◌∷◌, ◌++◌, length, Option, Some, None, refl, sym, ap, subst, ◌∙◌, append_assoc, length-append, arith, inl, inr, ◌⊎◌}
+use Rattle.std.proofs.Common.{◌≡◌, ℕ, zero, suc, ◌+◌, ◌<◌, ◌≤◌, Bool, true, false, cond, ◌&&◌, List, [], ◌∷◌, ◌++◌, length, Some, refl, sym, ap, subst, ◌∙◌, append_assoc, length-append, arith, inl, inr, ◌⊎◌}
 use Rattle.std.proofs.lemmas.List.{append-nil}
 use Rattle.std.proofs.lemmas.Bool.{eqb-true, ne_eqb}
 use Rattle.wasm_syntax.specs.declared.instructions.BlockId.{BlockId}
@@ -17,7 +17,7 @@ use Rattle.wasm_grammar.specs.Running.{State, step, with_built, is_last, begins_
 use Rattle.wasm_grammar.proofs.Steps.{bind_some, chosen, some_is}
 use Rattle.wasm_grammar.proofs.Threads.{Took, Reads}
 use Rattle.wasm_grammar.proofs.TokenLaws.{token_reads}
-use Rattle.wasm_grammar.proofs.Trees.{goes, grown, goes_again, goes_found}
+use Rattle.wasm_grammar.proofs.Trees.{goes, goes_again, goes_found}
 
 -- ---- tokens
 

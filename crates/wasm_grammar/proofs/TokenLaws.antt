@@ -1,5 +1,5 @@
 -- The laws of block types and tokens.
-use Rattle.std.proofs.Common.{◌≡◌, ℕ, ◌+◌, ◌<◌, ◌≤◌, ◌^◌, Bool, true, false, not, cond, eqb, ltb, ◌&&◌, List, [], ◌∷◌, ◌++◌, length, take, drop, Option, Some, None, refl, sym, ap, subst, ◌∙◌, append_assoc, length-append, arith, inl, inr, ◌⊎◌, lit<}
+use Rattle.std.proofs.Common.{◌≡◌, ℕ, ◌+◌, ◌<◌, ◌≤◌, ◌^◌, Bool, true, false, not, cond, eqb, ltb, ◌&&◌, List, [], ◌∷◌, ◌++◌, length, take, drop, Option, Some, refl, sym, ap, subst, ◌∙◌, length-append, arith, inl, inr, ◌⊎◌, lit<}
 use Rattle.std.proofs.lemmas.Bool.{eqb-true, ne_eqb, lt-ltb, le-ltb, ltb-false}
 use Rattle.std.proofs.lemmas.List.{take_at, drop_at, take-append-drop, length-take}
 use Rattle.wasm_syntax.specs.declared.instructions.BlockType.{BlockType}
@@ -11,16 +11,16 @@ use Rattle.wasm_grammar.specs.declared.built.Leaf.{Leaf}
 use Rattle.wasm_grammar.specs.declared.built.Built.{Built}
 use Rattle.wasm_grammar.specs.declared.tokens.Token.TheVariants as t
 use Rattle.wasm_grammar.specs.Forms.{Form, Run, Front}
-use Rattle.wasm_grammar.specs.Leb128.{IsU32, IsS32, IsS33, IsS64}
+use Rattle.wasm_grammar.specs.Leb128.{IsU32, IsS32, IsTypeIndex, IsS64}
 use Rattle.wasm_grammar.specs.Leaves.{leaf_before, Leafed, leafed_in}
-use Rattle.wasm_grammar.specs.Reading.{◌>>=◌, u32_at, s32_at, s33_at, s64_at, run_at}
+use Rattle.wasm_grammar.specs.Reading.{◌>>=◌, u32_at, s32_at, type_index_at, s64_at, run_at}
 use Rattle.wasm_grammar.specs.Binary.{IsVector}
 use Rattle.wasm_grammar.specs.Threads.{make_same, make_each, same_in, of_in, vector_in}
 use Rattle.wasm_grammar.specs.Types.{Tagged, TypeTree, IsValType, val_in}
 use Rattle.wasm_grammar.specs.Opcodes.{Shape, unknown, alone, one_index, indices, access, word, wide_word, reference, labels, result_types, zero, two_zeros, data_index, data_zero, begins_block, begins_loop, begins_if, goes_on, ends, float_bytes, float_access, float_leaf, shape_of, prefixed_shape}
-use Rattle.wasm_grammar.specs.Instructions.{BlockTree, empty, one, index, make_block_type, IsBlockType, block_type_in, plain, data_access, selection, leaf, block, loop, choice, otherwise, end_of, make_token, typed_selection, mem_arg_of, IsMemArg, IsZero, IsShaped, IsVectorConstant, IsToken, mem_arg_at, vector_constant_at, zero_in, shaped_in, prefixed_in, vector_constant_in, token_in}
+use Rattle.wasm_grammar.specs.Instructions.{BlockTree, empty, one, index, make_block_type, IsBlockType, block_type_in, plain, selection, leaf, block, loop, choice, otherwise, end_of, make_token, typed_selection, mem_arg_of, IsMemArg, IsZero, IsShaped, IsToken, mem_arg_at, vector_constant_at, zero_in, shaped_in, token_in}
 use Rattle.wasm_grammar.proofs.Steps.{bind_some, guard_not, guard_is, chosen, some_is}
-use Rattle.wasm_grammar.proofs.Integers.{ReadsPlain, u32_reads, signed_reads, s33_reads}
+use Rattle.wasm_grammar.proofs.Integers.{ReadsPlain, u32_reads, signed_reads, type_index_reads}
 use Rattle.wasm_grammar.proofs.Threads.{joined, parted, Took, Reads, same_reads, nothing_reads, never_reads, when_reads, by_first_reads, of_reads, made_reads, after_reads, both_reads, vector_reads, by_number_reads, remade_reads, each_same}
 use Rattle.wasm_grammar.proofs.Productions.{tagged_reads, val_type_reads, ref_type_reads}
 
@@ -30,8 +30,8 @@ u32s = same_reads IsU32 u32_at u32_reads
 s32s : Reads {S = Built} IsS32 make_same (same_in s32_at)
 s32s = same_reads IsS32 s32_at (signed_reads 5 (2 ^ 31))
 
-s33s : Reads {S = Built} IsS33 make_same (same_in s33_at)
-s33s = same_reads IsS33 s33_at s33_reads
+type_indices : Reads {S = Built} IsTypeIndex make_same (same_in type_index_at)
+type_indices = same_reads IsTypeIndex type_index_at type_index_reads
 
 s64s : Reads {S = Built} IsS64 make_same (same_in s64_at)
 s64s = same_reads IsS64 s64_at (signed_reads 10 (2 ^ 63))
@@ -77,7 +77,7 @@ type_byte after b bytes tree p =
           ]
     ]
 
-index_byte : (after b : ℕ) (bytes : List ℕ) (n : ℕ) → IsS33 after (b ∷ bytes) n → (b < 64) ⊎ (128 ≤ b)
+index_byte : (after b : ℕ) (bytes : List ℕ) (n : ℕ) → IsTypeIndex after (b ∷ bytes) n → (b < 64) ⊎ (128 ≤ b)
 index_byte after b [] n p = inl (let e : n ≡ b = p.groups.1 in omega (arith, p.not_negative))
 index_byte after b (c ∷ bytes) n p = inr p.groups.0
 
@@ -91,7 +91,7 @@ block_type_takes s after [] x e = absurd cc
 block_type_takes s after (b ∷ bytes) x e =
     let first : Option ((BlockType × Built) × List ℕ) = Some ((bt.Empty, s), bytes) in
     let second : Option ((BlockType × Built) × List ℕ) = of_in bt.One val_in s after (b ∷ bytes) in
-    let third : Option ((BlockType × Built) × List ℕ) = of_in bt.Index (same_in s33_at) s after (b ∷ bytes) in
+    let third : Option ((BlockType × Built) × List ℕ) = of_in bt.Index (same_in type_index_at) s after (b ∷ bytes) in
     elim (chosen (eqb b 64) first (cond (ltb 64 b && ltb b 128) second third) (Some x) e) [
       | inl h ↦ subst (λ (y : (BlockType × Built) × List ℕ). Took IsBlockType make_block_type s after (b ∷ bytes) y) (some_is _ _ h.1)
           (record { tree = empty; front = b ∷ []; parts = refl; is_form = ap (λ (k : ℕ). k ∷ []) (eqb-true b 64 h.0); made = refl })
@@ -100,7 +100,7 @@ block_type_takes s after (b ∷ bytes) x e =
             let u = (of_reads bt.One _ _ _ val_type_reads).takes s after (b ∷ bytes) x k.1 in
             record { tree = one u.tree; front = u.front; parts = u.parts; is_form = u.is_form; made = u.made }
         | inr k ↦
-            let u = (of_reads bt.Index _ _ _ s33s).takes s after (b ∷ bytes) x k.1 in
+            let u = (of_reads bt.Index _ _ _ type_indices).takes s after (b ∷ bytes) x k.1 in
             record { tree = index u.tree; front = u.front; parts = u.parts; is_form = u.is_form; made = u.made }
       ]
     ]
@@ -116,7 +116,7 @@ block_type_again s after (b ∷ front) rest (one tree) p =
 block_type_again s after [] rest (index n) p = absurd p.groups
 block_type_again s after (b ∷ front) rest (index n) p =
     let w = no_type b (index_byte (after + length rest) b front n (record { groups = p.groups; short = p.short; not_negative = p.not_negative; fits = p.fits })) in
-    rw (w.0, w.1) ((of_reads bt.Index _ _ _ s33s).again s after (b ∷ front) rest n (record { groups = p.groups; short = p.short; not_negative = p.not_negative; fits = p.fits }))
+    rw (w.0, w.1) ((of_reads bt.Index _ _ _ type_indices).again s after (b ∷ front) rest n (record { groups = p.groups; short = p.short; not_negative = p.not_negative; fits = p.fits }))
 
 pub block_type_reads : Reads IsBlockType make_block_type block_type_in
 block_type_reads = record { takes = block_type_takes; again = block_type_again }

@@ -1,5 +1,5 @@
 -- The blocks that tokens build are those of the code that they spell.
-use Rattle.std.proofs.Common.{◌≡◌, ℕ, Bool, List, [], ◌∷◌, ◌++◌, Option, Some, None, refl, sym, ap, subst, ◌∙◌, append_assoc, inl, inr, ◌⊎◌}
+use Rattle.std.proofs.Common.{◌≡◌, Bool, List, [], ◌∷◌, ◌++◌, Option, Some, refl, sym, ap, subst, ◌∙◌, append_assoc, inl, inr, ◌⊎◌}
 use Rattle.std.proofs.lemmas.List.{append-nil}
 use Rattle.wasm_syntax.specs.declared.instructions.BlockType.{BlockType}
 use Rattle.wasm_syntax.specs.declared.instructions.Instr.{Instr}
@@ -13,9 +13,9 @@ use Rattle.wasm_grammar.specs.declared.blocks.Level.{Level}
 use Rattle.wasm_grammar.specs.Reading.{◌>>=◌}
 use Rattle.wasm_grammar.specs.Instructions.{BlockTree, make_block_type, TokenTree, make_token}
 use Rattle.wasm_grammar.specs.Instructions as u
-use Rattle.wasm_grammar.specs.Code.{Plain, instr, data_access, selection, leaf, plain_token, Code, done, plain, block, loop, choice, choice_one, tokens, make_block, with_token, make_code}
+use Rattle.wasm_grammar.specs.Code.{Plain, instr, data_access, selection, leaf, plain_token, Code, done, plain, block, loop, choice, choice_one, tokens, make_block, with_token, if_of, make_code}
 use Rattle.wasm_grammar.specs.Running.{State, opens, ends_as, closes, turns_as, turns, step, with_built}
-use Rattle.wasm_grammar.proofs.Steps.{bind_some, some_is}
+use Rattle.wasm_grammar.proofs.Steps.{some_is}
 
 -- tokens are taken up one after the other
 abbrev pub goes : Bool → State → List TokenTree → Option State
@@ -94,13 +94,13 @@ goes_again e (choice tree one two c) s us =
     let b = make_code e two m.1 in
     let n = make_block b.0 b.1 in
     goes_again e one (opens (k.If type.0) (with_built s type.1)) (u.otherwise ∷ tokens two (u.end_of ∷ tokens c us)) ∙ goes_again e two _ (u.end_of ∷ tokens c us) ∙ goes_again e c _ us
-    ∙ ap (λ (z : Top). goes e (with_top s z) us) (block_grown e c s.instrs (i.If type.0 m.0 n.0) n.1)
+    ∙ ap (λ (z : Top). goes e (with_top s z) us) (block_grown e c s.instrs (if_of type.0 m.0 n.0) n.1)
 goes_again e (choice_one tree one c) s us =
     let type = make_block_type tree s.built in
     let a = make_code e one type.1 in
     let m = make_block a.0 a.1 in
     let n = make_block [] m.1 in
-    goes_again e one (opens (k.If type.0) (with_built s type.1)) (u.end_of ∷ tokens c us) ∙ goes_again e c _ us ∙ ap (λ (z : Top). goes e (with_top s z) us) (block_grown e c s.instrs (i.If type.0 m.0 n.0) n.1)
+    goes_again e one (opens (k.If type.0) (with_built s type.1)) (u.end_of ∷ tokens c us) ∙ goes_again e c _ us ∙ ap (λ (z : Top). goes e (with_top s z) us) (block_grown e c s.instrs (if_of type.0 m.0 n.0) n.1)
 
 -- ---- tokens that go to the end of all blocks are those of code: how the open blocks end, each with the code behind it
 
@@ -170,13 +170,13 @@ choice_found e goal s tree us h =
     elim h.more [
       | inl d ↦
           let n = make_block [] m.1 in
-          record { code = choice_one tree h.code d.after; rest = d.rest; is = ap (λ (w : List TokenTree). u.choice tree ∷ w) (h.is ∙ ap (tokens h.code) d.is); more = behind_block e s.levels goal d.after s.instrs (i.If type.0 m.0 n.0) n.1 d.rest d.more }
+          record { code = choice_one tree h.code d.after; rest = d.rest; is = ap (λ (w : List TokenTree). u.choice tree ∷ w) (h.is ∙ ap (tokens h.code) d.is); more = behind_block e s.levels goal d.after s.instrs (if_of type.0 m.0 n.0) n.1 d.rest d.more }
       | inr o ↦
           let b = make_code e o.second m.1 in
           let n = make_block b.0 b.1 in
           let same : o.type ≡ type.0 = cc (sym o.is_if) in
           let d = subst (λ (w : BlockType). EndsBy e (Closes e s.levels goal) (record { kind = k.Else w m.0; before = s.instrs }) b o.rest) same o.more in
-          record { code = choice tree h.code o.second d.after; rest = d.rest; is = ap (λ (w : List TokenTree). u.choice tree ∷ w) (h.is ∙ ap (tokens h.code) (o.is ∙ ap (λ (w : List TokenTree). u.otherwise ∷ tokens o.second w) d.is)); more = behind_block e s.levels goal d.after s.instrs (i.If type.0 m.0 n.0) n.1 d.rest d.more }
+          record { code = choice tree h.code o.second d.after; rest = d.rest; is = ap (λ (w : List TokenTree). u.choice tree ∷ w) (h.is ∙ ap (tokens h.code) (o.is ∙ ap (λ (w : List TokenTree). u.otherwise ∷ tokens o.second w) d.is)); more = behind_block e s.levels goal d.after s.instrs (if_of type.0 m.0 n.0) n.1 d.rest d.more }
     ]
 
 -- a token that ends a part of a block, behind no code

@@ -1,8 +1,6 @@
 -- Sections to the end of the bytes, and whole modules: what is read is spelled so, and what is spelled so is read.
-use Rattle.std.proofs.Common.{◌≡◌, ℕ, zero, suc, ◌+◌, ◌-◌, ◌<◌, ◌≤◌, Bool, true, false, cond, ◌&&◌, eqb, List, [], ◌∷◌, ◌++◌, length, Option, Some, None, refl, sym, ap, subst, ◌∙◌, length-append, arith}
+use Rattle.std.proofs.Common.{◌≡◌, ℕ, zero, suc, ◌<◌, ◌≤◌, true, cond, eqb, List, [], ◌∷◌, ◌++◌, length, Some, None, refl, sym, ap, ◌∙◌, length-append, arith}
 use Rattle.std.proofs.lemmas.Bool.{eqb-true, eq-eqb}
-use Rattle.wasm_syntax.specs.declared.module.Module.{Module}
-use Rattle.wasm_grammar.specs.declared.built.Leaf.{Leaf}
 use Rattle.wasm_grammar.specs.declared.built.Built.{Built}
 use Rattle.wasm_grammar.specs.declared.held.Held.{Held}
 use Rattle.wasm_grammar.specs.declared.held.Parts.{Parts}
@@ -11,9 +9,9 @@ use Rattle.wasm_grammar.specs.Reading.{◌>>=◌}
 use Rattle.wasm_grammar.specs.Threads.{Making, make_each, Reader}
 use Rattle.wasm_grammar.specs.Sections.{Section, IsSection, make_section, place, may_follow, last_of, in_order, section_in, held_place, held_in_order, all_in}
 use Rattle.wasm_grammar.specs.Sections as s
-use Rattle.wasm_grammar.specs.Module.{ModuleTree, hold_all, no_parts, nothing_built, make_parts, module_of, first_leaf, preamble, agrees, Spells, held_of, sections_in, behind, module_in}
+use Rattle.wasm_grammar.specs.Module.{ModuleTree, hold_all, no_parts, nothing_built, make_parts, preamble, agrees, Spells, sections_in, behind, module_in}
 use Rattle.wasm_grammar.proofs.Steps.{bind_some, guard_is, some_is}
-use Rattle.wasm_grammar.proofs.Threads.{Took, Reads, TookAll}
+use Rattle.wasm_grammar.proofs.Threads.{Reads, TookAll}
 use Rattle.wasm_grammar.proofs.Filling.{section_reads}
 
 -- ---- items to the end of the bytes
@@ -63,7 +61,7 @@ place_is (s.codes ts) b = refl
 place_is (s.datas ts) b = refl
 place_is (s.data_count n) b = refl
 
-order_is : (cs : List Section) (last : ℕ) (b : Built) → held_in_order last (make_each make_section cs b).0 ≡ in_order last cs
+pub order_is : (cs : List Section) (last : ℕ) (b : Built) → held_in_order last (make_each make_section cs b).0 ≡ in_order last cs
 order_is [] last b = refl
 order_is (c ∷ cs) last b = rw (place_is c b, order_is cs (last_of last (place c)) (make_section c b).1) refl
 

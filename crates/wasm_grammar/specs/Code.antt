@@ -1,6 +1,7 @@
 -- Expressions as trees (WebAssembly Core 2.0, sections 5.4 and 5.5.13): which tokens spell them, and which blocks they make.
 use Rattle.std.specs.Prelude.{◌≡◌, ℕ, ◌+◌, List, [], ◌∷◌, ◌++◌, length, Bool, true}
 use Rattle.wasm_syntax.specs.declared.instructions.BlockId.{BlockId}
+use Rattle.wasm_syntax.specs.declared.instructions.BlockType.{BlockType}
 use Rattle.wasm_syntax.specs.declared.instructions.Instr.{Instr}
 use Rattle.wasm_syntax.specs.declared.instructions.Instr.TheVariants as i
 use Rattle.wasm_grammar.specs.declared.built.Foreign.TheVariants as w
@@ -59,6 +60,9 @@ abbrev pub with_token : Token → List Instr × Built → List Instr × Built
 with_token (t.Plain i) x = (i ∷ x.0, x.1)
 with_token _ x = x
 
+abbrev pub if_of : BlockType → (one two : BlockId) → Instr
+if_of type one two = i.If (record { ty = type; body = one; other = two })
+
 -- Code makes instructions. The blocks in it are built in the order in which they end; the empty second block of an `if` with one
 -- part follows the first one.
 abbrev pub make_code : (entry : Bool) → Making Built Code (List Instr)
@@ -83,14 +87,14 @@ make_code entry (choice tree one two c) s =
     let b = make_code entry two m.1 in
     let n = make_block b.0 b.1 in
     let x = make_code entry c n.1 in
-    (i.If type.0 m.0 n.0 ∷ x.0, x.1)
+    (if_of type.0 m.0 n.0 ∷ x.0, x.1)
 make_code entry (choice_one tree one c) s =
     let type = make_block_type tree s in
     let a = make_code entry one type.1 in
     let m = make_block a.0 a.1 in
     let n = make_block [] m.1 in
     let x = make_code entry c n.1 in
-    (i.If type.0 m.0 n.0 ∷ x.0, x.1)
+    (if_of type.0 m.0 n.0 ∷ x.0, x.1)
 
 -- ---- expressions (5.4.9)
 
@@ -113,7 +117,7 @@ pub data Body : Type 0 where
 pub record IsCut (after : ℕ) (bytes : List ℕ) (passed : List TokenTree) (l : Leaf) : Type 0 where
   pub front : List ℕ
   pub back : List ℕ
-  pub parts : bytes ≡ front ++ 253 ∷ back
+  pub parts : bytes ≡ front ++ 0xFD ∷ back
   pub items : Items (IsToken true) (after + length back + 1) front passed
   pub leaf_is : l ≡ leaf_before (after + length back) w.Simd
   pub code : Code

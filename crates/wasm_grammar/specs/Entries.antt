@@ -32,18 +32,18 @@ make_import_desc (global g) s = make_of i.Global make_global_type g s
 -- 00 a type index, 01 a table type, 02 limits, 03 a global type
 abbrev pub IsImportDesc : Form ImportTree
 IsImportDesc = ByFirst (λ b.
-    When (b == 0) (Made func IsU32) (
-    When (b == 1) (Made table IsTableType) (
-    When (b == 2) (Made mem IsLimits) (
-    When (b == 3) (Made global IsGlobalType) (
+    When (b == 0x00) (Made func IsU32) (
+    When (b == 0x01) (Made table IsTableType) (
+    When (b == 0x02) (Made mem IsLimits) (
+    When (b == 0x03) (Made global IsGlobalType) (
     Never)))))
 
 abbrev pub import_desc_in : Reader Built ImportDesc
 import_desc_in = by_first (λ b.
-    when (b == 0) (of_in i.Func (same_in u32_at)) (
-    when (b == 1) (of_in i.Table table_type_in) (
-    when (b == 2) (of_in i.Mem limits_in) (
-    when (b == 3) (of_in i.Global global_type_in) (
+    when (b == 0x00) (of_in i.Func (same_in u32_at)) (
+    when (b == 0x01) (of_in i.Table table_type_in) (
+    when (b == 0x02) (of_in i.Mem limits_in) (
+    when (b == 0x03) (of_in i.Global global_type_in) (
     never_in)))))
 
 -- two names, and what is asked for
@@ -62,18 +62,18 @@ import_in = of_in import_of (both_in (both_in (same_in name_at) (same_in name_at
 -- 00 a function, 01 a table, 02 a memory, 03 a global, by its index
 abbrev pub IsExportDesc : Form ExportDesc
 IsExportDesc = ByFirst (λ b.
-    When (b == 0) (Made x.Func IsU32) (
-    When (b == 1) (Made x.Table IsU32) (
-    When (b == 2) (Made x.Mem IsU32) (
-    When (b == 3) (Made x.Global IsU32) (
+    When (b == 0x00) (Made x.Func IsU32) (
+    When (b == 0x01) (Made x.Table IsU32) (
+    When (b == 0x02) (Made x.Mem IsU32) (
+    When (b == 0x03) (Made x.Global IsU32) (
     Never)))))
 
 abbrev pub export_desc_in : Reader Built ExportDesc
 export_desc_in = by_first (λ b.
-    when (b == 0) (of_in x.Func (same_in u32_at)) (
-    when (b == 1) (of_in x.Table (same_in u32_at)) (
-    when (b == 2) (of_in x.Mem (same_in u32_at)) (
-    when (b == 3) (of_in x.Global (same_in u32_at)) (
+    when (b == 0x00) (of_in x.Func (same_in u32_at)) (
+    when (b == 0x01) (of_in x.Table (same_in u32_at)) (
+    when (b == 0x02) (of_in x.Mem (same_in u32_at)) (
+    when (b == 0x03) (of_in x.Global (same_in u32_at)) (
     never_in)))))
 
 -- a name, and what is given

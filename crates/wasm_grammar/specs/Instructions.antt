@@ -1,6 +1,6 @@
 -- Instructions as tokens (WebAssembly Core 2.0, section 5.4): an expression is spelled by one token after the other, and a token is
 -- an instruction, or the place where a block begins, goes on with its second part, or ends.
-use Rattle.std.specs.Prelude.{◌≡◌, ℕ, ◌+◌, List, [], ◌∷◌, length, Bool, true, not, Option, Some, None, nat_lt, ◌==◌, ◌&&◌, cond, if◌then◌else◌}
+use Rattle.std.specs.Prelude.{◌≡◌, ℕ, List, [], ◌∷◌, Bool, true, not, Option, Some, None, nat_lt, ◌==◌, ◌&&◌, cond, if◌then◌else◌}
 use Rattle.wasm_syntax.specs.declared.instructions.BlockType.{BlockType}
 use Rattle.wasm_syntax.specs.declared.instructions.BlockType.TheVariants as bt
 use Rattle.wasm_syntax.specs.declared.types.ValType.{ValType}
@@ -13,10 +13,10 @@ use Rattle.wasm_grammar.specs.declared.built.Built.{Built}
 use Rattle.wasm_grammar.specs.declared.tokens.Token.{Token}
 use Rattle.wasm_grammar.specs.declared.tokens.Token.TheVariants as t
 use Rattle.wasm_grammar.specs.Forms.{Form, Run, Nothing, Both, Made, ByFirst, When, Never}
-use Rattle.wasm_grammar.specs.Leb128.{IsU32, IsS32, IsS33, IsS64}
+use Rattle.wasm_grammar.specs.Leb128.{IsU32, IsS32, IsTypeIndex, IsS64}
 use Rattle.wasm_grammar.specs.Binary.{IsVector, ByNumber}
 use Rattle.wasm_grammar.specs.Leaves.{with_leaf, Leafed, leafed_in}
-use Rattle.wasm_grammar.specs.Reading.{◌>>=◌, u32_at, s32_at, s33_at, s64_at, run_at}
+use Rattle.wasm_grammar.specs.Reading.{◌>>=◌, u32_at, s32_at, type_index_at, s64_at, run_at}
 use Rattle.wasm_grammar.specs.Threads.{Making, make_same, make_each, make_of, Reader, same_in, nothing_in, never_in, both_in, of_in, after_in, by_number, by_first, when, vector_in}
 use Rattle.wasm_grammar.specs.Types.{Tagged, tagged, TypeTree, make_type, IsValType, val_in, IsRefType, ref_in}
 use Rattle.wasm_grammar.specs.Opcodes.{Shape, unknown, alone, one_index, indices, access, word, wide_word, reference, labels, result_types, zero, two_zeros, data_index, data_zero, begins_block, begins_loop, begins_if, goes_on, ends, float_bytes, float_access, float_leaf, shape_of, prefixed_shape}
@@ -34,16 +34,16 @@ make_block_type (one tree) s = make_of bt.One make_type tree s
 make_block_type (index n) s = (bt.Index n, s)
 
 abbrev pub IsBlockType : Form BlockTree
-IsBlockType after bytes empty = bytes ≡ 64 ∷ []
+IsBlockType after bytes empty = bytes ≡ 0x40 ∷ []
 IsBlockType after bytes (one tree) = IsValType after bytes tree
-IsBlockType after bytes (index n) = IsS33 after bytes n
+IsBlockType after bytes (index n) = IsTypeIndex after bytes n
 
 unfoldable pub block_type_in : Reader Built BlockType
 block_type_in s after [] = None
 block_type_in s after (b ∷ bytes) =
-    cond (b == 64) (Some ((bt.Empty, s), bytes)) (
-    cond (nat_lt 64 b && nat_lt b 128) (of_in bt.One val_in s after (b ∷ bytes)) (
-    of_in bt.Index (same_in s33_at) s after (b ∷ bytes)))
+    cond (b == 0x40) (Some ((bt.Empty, s), bytes)) (
+    cond (nat_lt 0x40 b && nat_lt b 0x80) (of_in bt.One val_in s after (b ∷ bytes)) (
+    of_in bt.Index (same_in type_index_at) s after (b ∷ bytes)))
 
 -- ---- tokens
 
@@ -86,7 +86,7 @@ abbrev pub IsMemArg : Form MemArg
 IsMemArg = Made mem_arg_of (Both IsU32 IsU32)
 
 abbrev pub IsZero : Form (Unit {0})
-IsZero = Tagged 0 (Nothing tt)
+IsZero = Tagged 0x00 (Nothing tt)
 
 -- what stands behind the opcode of a shape
 abbrev pub IsShaped : Shape → Form TokenTree
@@ -115,13 +115,13 @@ IsShaped (float_leaf first) = Nothing (leaf first)
 
 -- outside of functions' code a constant vector is a leaf: behind FD the byte 0C and 16 bytes
 abbrev pub IsVectorConstant : Form TokenTree
-IsVectorConstant = Made leaf (Leafed w.Simd (Tagged 12 (Run 16)))
+IsVectorConstant = Made leaf (Leafed w.Simd (Tagged 0x0C (Run 16)))
 
 -- a token of a function's code, or of an expression elsewhere
 abbrev pub IsToken : (in_code : Bool) → Form TokenTree
 IsToken in_code = ByFirst (λ b.
-    When (b == 252) (ByNumber (λ left n. IsShaped (prefixed_shape left n))) (
-    When ((b == 253) && not in_code) IsVectorConstant (
+    When (b == 0xFC) (ByNumber (λ left n. IsShaped (prefixed_shape left n))) (
+    When ((b == 0xFD) && not in_code) IsVectorConstant (
     IsShaped (shape_of b))))
 
 -- ---- reading
@@ -132,10 +132,10 @@ mem_arg_at bytes = u32_at bytes >>= λ a. u32_at a.1 >>= λ o. Some (mem_arg_of 
 -- one byte 0C and 16 more
 abbrev pub vector_constant_at : List ℕ → Option (List ℕ × List ℕ)
 vector_constant_at [] = None
-vector_constant_at (b ∷ bytes) = if b == 12 then run_at 16 bytes else None
+vector_constant_at (b ∷ bytes) = if b == 0x0C then run_at 16 bytes else None
 
 abbrev pub zero_in : Reader Built (Unit {0})
-zero_in = tagged 0 (nothing_in (make_same tt))
+zero_in = tagged 0x00 (nothing_in (make_same tt))
 
 -- a token that is made of a value
 abbrev pub token_of_in : {A : Type 0} → (in_code : Bool) → (A → TokenTree) → Reader Built A → Reader Built Token
@@ -173,6 +173,6 @@ vector_constant_in in_code = leafed_in w.Simd (λ first. make_token in_code (lea
 
 abbrev pub token_in : (in_code : Bool) → Reader Built Token
 token_in in_code = by_first (λ b.
-    when (b == 252) (prefixed_in in_code) (
-    when ((b == 253) && not in_code) (vector_constant_in in_code) (
+    when (b == 0xFC) (prefixed_in in_code) (
+    when ((b == 0xFD) && not in_code) (vector_constant_in in_code) (
     shaped_in in_code (shape_of b))))

@@ -35,8 +35,9 @@ IsS32 = IsSigned 5 (2 ^ 31)
 abbrev pub IsS64 : Form ℕ
 IsS64 = IsSigned 10 (2 ^ 63)
 
--- a signed integer of 33 bits that isn't negative
-pub record IsS33 (after : ℕ) (bytes : List ℕ) (n : ℕ) : Type 0 where
+-- the index of a type in the place of a block's type (5.4.1): a signed integer of 33 bits that isn't negative, so 7F, which spells
+-- -1, spells none
+pub record IsTypeIndex (after : ℕ) (bytes : List ℕ) (n : ℕ) : Type 0 where
   pub groups : IsLeb128 bytes n
   pub short : length bytes ≤ 5
   pub not_negative : n + n < 128 ^ length bytes

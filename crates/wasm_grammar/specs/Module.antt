@@ -11,7 +11,7 @@ use Rattle.wasm_grammar.specs.declared.held.Held.TheVariants as h
 use Rattle.wasm_grammar.specs.declared.held.Parts.{Parts}
 use Rattle.wasm_grammar.specs.Forms.{Items}
 use Rattle.wasm_grammar.specs.Reading.{◌>>=◌}
-use Rattle.wasm_grammar.specs.Threads.{make_each, Whole}
+use Rattle.wasm_grammar.specs.Threads.{make_each}
 use Rattle.wasm_grammar.specs.Sections.{Section, IsSection, make_section, in_order, section_in, held_in_order, all_in}
 
 -- a module as it is spelled: its sections
@@ -83,7 +83,7 @@ first_leaf tree = (make_parts tree).1.first
 
 -- 00 61 73 6D, and the version 1
 abbrev pub preamble : List ℕ
-preamble = 0 ∷ 97 ∷ 115 ∷ 109 ∷ 1 ∷ 0 ∷ 0 ∷ 0 ∷ []
+preamble = 0x00 ∷ 0x61 ∷ 0x73 ∷ 0x6D ∷ 0x01 ∷ 0x00 ∷ 0x00 ∷ 0x00 ∷ []
 
 -- a data count tells the number of data segments, and stands where a body uses one of them
 abbrev pub counts_data : Option ℕ → (datas : ℕ) → (used : Bool) → Bool

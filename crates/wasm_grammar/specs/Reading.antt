@@ -1,4 +1,4 @@
--- Reading from left to right, as functions on lists of bytes.
+-- Private: reading from left to right, as functions on lists of bytes.
 use Rattle.std.specs.Prelude.{ℕ, ◌+◌, ◌-◌, ◌*◌, ◌^◌, List, [], ◌∷◌, length, take, drop, Option, Some, None, nat_lt, ◌==◌, if◌then◌else◌}
 use Rattle.std.specs.Str.{is_utf8}
 
@@ -34,8 +34,8 @@ s32_at = signed_at 5 (2 ^ 31)
 abbrev pub s64_at : List ℕ → Option (ℕ × List ℕ)
 s64_at = signed_at 10 (2 ^ 63)
 
-unfoldable pub s33_at : List ℕ → Option (ℕ × List ℕ)
-s33_at bytes = leb_at 0 1 bytes 5 >>= λ x. if nat_lt (x.0.0 + x.0.0) x.0.1 then (if nat_lt x.0.0 (2 ^ 32) then Some (x.0.0, x.1) else None) else None
+unfoldable pub type_index_at : List ℕ → Option (ℕ × List ℕ)
+type_index_at bytes = leb_at 0 1 bytes 5 >>= λ x. if nat_lt (x.0.0 + x.0.0) x.0.1 then (if nat_lt x.0.0 (2 ^ 32) then Some (x.0.0, x.1) else None) else None
 
 -- so many bytes as a size tells
 unfoldable pub part_at : List ℕ → Option (List ℕ × List ℕ)

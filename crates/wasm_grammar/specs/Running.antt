@@ -1,4 +1,4 @@
--- Reading an expression with a list of open blocks.
+-- Private: reading an expression with a list of open blocks.
 use Rattle.std.specs.Prelude.{ℕ, zero, suc, ◌+◌, List, [], ◌∷◌, ◌++◌, length, Option, Some, None, Bool, true, false, cond, ◌&&◌, ◌==◌, reverse}
 use Rattle.wasm_syntax.specs.declared.instructions.BlockId.{BlockId}
 use Rattle.wasm_syntax.specs.declared.instructions.Instr.{Instr}
@@ -15,7 +15,7 @@ use Rattle.wasm_grammar.specs.Leaves.{with_leaf}
 use Rattle.wasm_grammar.specs.Reading.{◌>>=◌}
 use Rattle.wasm_grammar.specs.Threads.{Reader, Whole, whole_in}
 use Rattle.wasm_grammar.specs.Instructions.{token_in}
-use Rattle.wasm_grammar.specs.Code.{make_block}
+use Rattle.wasm_grammar.specs.Code.{make_block, if_of}
 
 -- the instructions of the innermost open block, the levels around it from the inside out, and what is built
 pub record State : Type 0 where
@@ -33,8 +33,8 @@ opens kind s = record { instrs = []; levels = record { kind = kind; before = s.i
 abbrev pub ends_as : Kind → (before instrs : List Instr) → Built → List Instr × Built
 ends_as (k.Block type) before instrs s = let n = make_block instrs s in (before ++ i.Block type n.0 ∷ [], n.1)
 ends_as (k.Loop type) before instrs s = let n = make_block instrs s in (before ++ i.Loop type n.0 ∷ [], n.1)
-ends_as (k.If type) before instrs s = let m = make_block instrs s in let n = make_block [] m.1 in (before ++ i.If type m.0 n.0 ∷ [], n.1)
-ends_as (k.Else type one) before instrs s = let n = make_block instrs s in (before ++ i.If type one n.0 ∷ [], n.1)
+ends_as (k.If type) before instrs s = let m = make_block instrs s in let n = make_block [] m.1 in (before ++ if_of type m.0 n.0 ∷ [], n.1)
+ends_as (k.Else type one) before instrs s = let n = make_block instrs s in (before ++ if_of type one n.0 ∷ [], n.1)
 
 abbrev pub closes : List Level → List Instr → Built → Option State
 closes [] instrs b = None
@@ -65,7 +65,7 @@ is_last _ _ = false
 -- the byte of a foreign leaf that takes the rest of a code entry
 abbrev pub begins_simd : List ℕ → Bool
 begins_simd [] = false
-begins_simd (b ∷ bytes) = b == 253
+begins_simd (b ∷ bytes) = b == 0xFD
 
 -- it ends all open blocks
 abbrev pub cut_at : (left : ℕ) → Built → State

@@ -1,5 +1,5 @@
 -- Sections (WebAssembly Core 2.0, sections 5.5.2 to 5.5.15).
-use Rattle.std.specs.Prelude.{◌≡◌, ℕ, zero, suc, List, [], ◌∷◌, Option, Some, None, Bool, true, false, nat_lt, ◌==◌, ◌&&◌, ◌||◌, if◌then◌else◌}
+use Rattle.std.specs.Prelude.{ℕ, zero, suc, List, [], ◌∷◌, Some, None, Bool, true, nat_lt, ◌==◌, ◌&&◌, ◌||◌, if◌then◌else◌}
 use Rattle.wasm_syntax.specs.declared.types.Limit.{Limit}
 use Rattle.wasm_syntax.specs.declared.types.TableType.{TableType}
 use Rattle.wasm_syntax.specs.declared.module.Export.{Export}
@@ -11,7 +11,7 @@ use Rattle.wasm_grammar.specs.Leb128.{IsU32}
 use Rattle.wasm_grammar.specs.Binary.{IsVector, IsSized, IsCustom}
 use Rattle.wasm_grammar.specs.Reading.{◌>>=◌, u32_at, custom_at}
 use Rattle.wasm_grammar.specs.Threads.{Making, make_same, make_each, make_of, Reader, same_in, never_in, of_in, by_first, when, vector_in, Whole, whole_in, sized_in}
-use Rattle.wasm_grammar.specs.Types.{TypeTree, FuncTypeTree, IsFuncType, make_func_type, func_type_in, IsLimits, limits_in, IsTableType, table_type_in, GlobalTree}
+use Rattle.wasm_grammar.specs.Types.{FuncTypeTree, IsFuncType, make_func_type, func_type_in, IsLimits, limits_in, IsTableType, table_type_in, GlobalTree}
 use Rattle.wasm_grammar.specs.Entries.{ImportTree, IsImport, make_import, import_in, IsExport, export_in}
 use Rattle.wasm_grammar.specs.Code.{Code, Body}
 use Rattle.wasm_grammar.specs.Functions.{LocalTree, IsGlobal, make_global, global_in, IsCodeEntry, make_entry, entry_in}

@@ -36,39 +36,39 @@ make_type (strange leaf) s = (v.I32, with_leaf s leaf)
 -- 5.3.1 to 5.3.4: 7F i32, 7E i64, 7D f32, 7C f64, 7B v128, 70 funcref, 6F externref
 abbrev pub IsValType : Form TypeTree
 IsValType = ByFirst (λ b.
-    When (b == 127) (Nothing (known v.I32)) (
-    When (b == 126) (Nothing (known v.I64)) (
-    When (b == 125) (Made strange (IsLeaf w.Float)) (
-    When (b == 124) (Made strange (IsLeaf w.Float)) (
-    When (b == 123) (Made strange (IsLeaf w.Simd)) (
-    When (b == 112) (Nothing (known v.FuncRef)) (
-    When (b == 111) (Nothing (known v.ExternRef)) (
+    When (b == 0x7F) (Nothing (known v.I32)) (
+    When (b == 0x7E) (Nothing (known v.I64)) (
+    When (b == 0x7D) (Made strange (IsLeaf w.Float)) (
+    When (b == 0x7C) (Made strange (IsLeaf w.Float)) (
+    When (b == 0x7B) (Made strange (IsLeaf w.Simd)) (
+    When (b == 0x70) (Nothing (known v.FuncRef)) (
+    When (b == 0x6F) (Nothing (known v.ExternRef)) (
     Never))))))))
 
 abbrev pub val_in : Reader Built ValType
 val_in = by_first (λ b.
-    when (b == 127) (nothing_in (make_type (known v.I32))) (
-    when (b == 126) (nothing_in (make_type (known v.I64))) (
-    when (b == 125) (leaf_in w.Float (λ leaf. make_type (strange leaf))) (
-    when (b == 124) (leaf_in w.Float (λ leaf. make_type (strange leaf))) (
-    when (b == 123) (leaf_in w.Simd (λ leaf. make_type (strange leaf))) (
-    when (b == 112) (nothing_in (make_type (known v.FuncRef))) (
-    when (b == 111) (nothing_in (make_type (known v.ExternRef))) (
+    when (b == 0x7F) (nothing_in (make_type (known v.I32))) (
+    when (b == 0x7E) (nothing_in (make_type (known v.I64))) (
+    when (b == 0x7D) (leaf_in w.Float (λ leaf. make_type (strange leaf))) (
+    when (b == 0x7C) (leaf_in w.Float (λ leaf. make_type (strange leaf))) (
+    when (b == 0x7B) (leaf_in w.Simd (λ leaf. make_type (strange leaf))) (
+    when (b == 0x70) (nothing_in (make_type (known v.FuncRef))) (
+    when (b == 0x6F) (nothing_in (make_type (known v.ExternRef))) (
     never_in))))))))
 
 -- 5.3.3: 70 funcref, 6F externref
 abbrev pub IsRefType : Form ValType
-IsRefType = ByFirst (λ b. When (b == 112) (Nothing v.FuncRef) (When (b == 111) (Nothing v.ExternRef) Never))
+IsRefType = ByFirst (λ b. When (b == 0x70) (Nothing v.FuncRef) (When (b == 0x6F) (Nothing v.ExternRef) Never))
 
 abbrev pub ref_in : Reader Built ValType
-ref_in = by_first (λ b. when (b == 112) (nothing_in (make_same v.FuncRef)) (when (b == 111) (nothing_in (make_same v.ExternRef)) never_in))
+ref_in = by_first (λ b. when (b == 0x70) (nothing_in (make_same v.FuncRef)) (when (b == 0x6F) (nothing_in (make_same v.ExternRef)) never_in))
 
 -- 5.3.6: 60, the parameters, the results
 abbrev pub FuncTypeTree : Type 0
 FuncTypeTree = List TypeTree × List TypeTree
 
 abbrev pub IsFuncType : Form FuncTypeTree
-IsFuncType = Tagged 96 (Both (IsVector IsValType) (IsVector IsValType))
+IsFuncType = Tagged 0x60 (Both (IsVector IsValType) (IsVector IsValType))
 
 abbrev pub func_type_of : List ValType × List ValType → FuncType
 func_type_of x = record { params = x.0; results = x.1 }
@@ -77,7 +77,7 @@ abbrev pub make_func_type : Making Built FuncTypeTree FuncType
 make_func_type = make_of func_type_of (make_both (make_each make_type) (make_each make_type))
 
 abbrev pub func_type_in : Reader Built FuncType
-func_type_in = of_in func_type_of (tagged 96 (both_in (vector_in val_in) (vector_in val_in)))
+func_type_in = of_in func_type_of (tagged 0x60 (both_in (vector_in val_in) (vector_in val_in)))
 
 -- 5.3.7: 00 the least size, or 01 the least and the greatest one
 abbrev pub limit_from : ℕ → Limit
@@ -87,10 +87,10 @@ abbrev pub limit_between : ℕ × ℕ → Limit
 limit_between x = record { min = x.0; max = Some x.1 }
 
 abbrev pub IsLimits : Form Limit
-IsLimits = ByFirst (λ b. When (b == 0) (Made limit_from IsU32) (When (b == 1) (Made limit_between (Both IsU32 IsU32)) Never))
+IsLimits = ByFirst (λ b. When (b == 0x00) (Made limit_from IsU32) (When (b == 0x01) (Made limit_between (Both IsU32 IsU32)) Never))
 
 abbrev pub limits_in : Reader Built Limit
-limits_in = by_first (λ b. when (b == 0) (of_in limit_from (same_in u32_at)) (when (b == 1) (of_in limit_between (both_in (same_in u32_at) (same_in u32_at))) never_in))
+limits_in = by_first (λ b. when (b == 0x00) (of_in limit_from (same_in u32_at)) (when (b == 0x01) (of_in limit_between (both_in (same_in u32_at) (same_in u32_at))) never_in))
 
 -- 5.3.9: a reference type and limits
 abbrev pub table_type_of : ValType × Limit → TableType
@@ -107,10 +107,10 @@ abbrev pub GlobalTree : Type 0
 GlobalTree = TypeTree × Bool
 
 abbrev pub IsMutability : Form Bool
-IsMutability = ByFirst (λ b. When (b == 0) (Nothing false) (When (b == 1) (Nothing true) Never))
+IsMutability = ByFirst (λ b. When (b == 0x00) (Nothing false) (When (b == 0x01) (Nothing true) Never))
 
 abbrev pub mutability_in : Reader Built Bool
-mutability_in = by_first (λ b. when (b == 0) (nothing_in (make_same false)) (when (b == 1) (nothing_in (make_same true)) never_in))
+mutability_in = by_first (λ b. when (b == 0x00) (nothing_in (make_same false)) (when (b == 0x01) (nothing_in (make_same true)) never_in))
 
 abbrev pub IsGlobalType : Form GlobalTree
 IsGlobalType = Both IsValType IsMutability

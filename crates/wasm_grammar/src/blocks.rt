@@ -1,16 +1,19 @@
 //! The open blocks of an expression that is read.
 
-ghost use Rattle.std.specs.Prelude.{◌≡◌, Some};
+ghost use Rattle.std.specs.Prelude.{◌≡◌, Some, IfOk};
 ghost use Rattle.wasm_grammar.specs.Answers.{Gives};
-ghost use Rattle.wasm_grammar.specs.Code.{make_block};
+ghost use Rattle.wasm_grammar.specs.Code.{make_block, if_of as if_instr};
 ghost use Rattle.wasm_grammar.specs.Running.{state, opens, turns, closes, step};
 
 use crate::built::Built;
 use crate::fault::ReadError;
 use crate::tokens::Token;
-use sqlite_items::Items;
-use std::alloc::Global;
-use wasm_syntax::{BlockId, BlockType, Instr};
+use sqlite_items::{Boxed, Items};
+use std::alloc::{AllocError, Global};
+use wasm_syntax::{BlockId, BlockType, IfParts, Instr};
+
+/// From more instructions on, a block keeps the room in which it was read.
+const LONG: usize = 64;
 
 /// What an open block is. The second part of an `if` has the number of the first one.
 #[derive(Debug, Drop)]
@@ -35,15 +38,38 @@ pub struct Open {
     pub levels: Items<Level>,
 }
 
+/// The same instructions in no more room than they take: a list that grows has room for four at least. A long one is left as it
+/// is, since it takes as much again at the most.
+fn fitted(alloc: Global, instrs: Items<Instr>) -> Result<Items<Instr>, AllocError>
+    ensures { IfOk result (λ it. it ≡ instrs) }
+{
+    if instrs.is_empty() || instrs.len() > LONG {
+        return Ok(instrs);
+    }
+    let room = Vec::with_capacity(alloc, instrs.len())?;
+    let mut fitting = Items::from_vec(room);
+    fitting.append(instrs)?;
+    Ok(fitting)
+}
+
+/// The `if` with these parts.
+fn if_of(alloc: Global, ty: BlockType, body: BlockId, other: BlockId) -> Result<Instr, AllocError>
+    ensures { IfOk result (λ it. it ≡ if_instr ty body other) }
+{
+    let parts = Boxed::new(alloc, IfParts { ty, body, other })?;
+    Ok(Instr::If(parts))
+}
+
 /// A block has ended, and has its number: that of the blocks that ended before it. Numbers end only where memory would.
-pub fn ended(built: &mut Built, instrs: Items<Instr>) -> Result<BlockId, ReadError>
+pub fn ended(alloc: Global, built: &mut Built, instrs: Items<Instr>) -> Result<BlockId, ReadError>
     ensures { Gives (λ id. (id, built.new)) result (Some (make_block instrs built.old)) }
 {
     let count = built.blocks.len();
     if count > u32::MAX as usize {
         return Err(ReadError::NoMemory);
     }
-    built.blocks.push(instrs)?;
+    let block = fitted(alloc, instrs)?;
+    built.blocks.push(block)?;
     Ok(BlockId(count as u32))
 }
 
@@ -71,7 +97,7 @@ fn turned(alloc: Global, built: &mut Built, so_far: Open) -> Result<Open, ReadEr
         None => Err(ReadError::Malformed),
         Some(Level { kind, before }) => match kind {
             Kind::If(block_type) => {
-                let one = ended(built, instrs)?;
+                let one = ended(alloc, built, instrs)?;
                 levels.push(Level {
                     kind: Kind::Else(block_type, one),
                     before,
@@ -94,15 +120,15 @@ fn closed(alloc: Global, built: &mut Built, so_far: Open) -> Result<Open, ReadEr
     let Some(Level { kind, mut before }) = levels.pop() else {
         return Err(ReadError::Malformed);
     };
-    let id = ended(built, instrs)?;
+    let id = ended(alloc, built, instrs)?;
     match kind {
         Kind::Block(block_type) => before.push(Instr::Block(block_type, id))?,
         Kind::Loop(block_type) => before.push(Instr::Loop(block_type, id))?,
         Kind::If(block_type) => {
-            let two = ended(built, Items::new(alloc))?;
-            before.push(Instr::If(block_type, id, two))?;
+            let two = ended(alloc, built, Items::new(alloc))?;
+            before.push(if_of(alloc, block_type, id, two)?)?;
         }
-        Kind::Else(block_type, one) => before.push(Instr::If(block_type, one, id))?,
+        Kind::Else(block_type, one) => before.push(if_of(alloc, block_type, one, id)?)?,
     }
     Ok(Open {
         instrs: before,

@@ -1,6 +1,7 @@
 //! Modules from bytes (WebAssembly Core 2.0, chapter 5).
 
-ghost use Rattle.std.specs.Prelude.{◌≡◌, ◌≤◌, ◌<◌, ◌^◌, ℕ, List, IfOk, IfSome, length, reverse};
+ghost use Rattle.std.specs.Prelude.{◌≡◌, true, ◌≤◌, ◌<◌, ◌^◌, ℕ, List, IfOk, IfSome, length, reverse};
+ghost use Rattle.wasm_syntax.specs.Numbering.{is_numbered};
 ghost use Rattle.wasm_grammar.specs.Decoding.{Decoded, Decodes, told, read_as};
 ghost use Rattle.wasm_grammar.specs.Module.{funcs_of, module_with, module_in};
 
@@ -125,6 +126,8 @@ pub fn decode(alloc: Global, bytes: &[u8]) -> Result<Module, DecodeError>
     ensures found { IfSome (told result) (Decodes bytes.now) }
     // What is so is answered, unless memory runs out.
     ensures only { (d : Decoded) → Decodes bytes.now d → IfSome (told result) (λ a. a ≡ d) }
+    // Its blocks are numbered in the order in which they end.
+    ensures numbered { IfOk result (λ m. is_numbered m ≡ true) }
 {
     decided(alloc, bytes)
 }

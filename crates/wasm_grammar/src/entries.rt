@@ -28,11 +28,11 @@ fn import_desc_of<'a>(
             Ok((ImportDesc::Func(index), rest))
         }
         [0x01, rest @ ..] => {
-            let (table, rest) = table_type_of(built, after, rest)?;
+            let (table, rest) = table_type_of(rest)?;
             Ok((ImportDesc::Table(table), rest))
         }
         [0x02, rest @ ..] => {
-            let (limit, rest) = limits_of(built, after, rest)?;
+            let (limit, rest) = limits_of(rest)?;
             Ok((ImportDesc::Mem(limit), rest))
         }
         [0x03, rest @ ..] => {

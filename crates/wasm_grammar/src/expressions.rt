@@ -105,7 +105,7 @@ pub fn expression_of<'a>(
     ensures gives { Gives (λ x. ((x.0, built.new), x.1.now)) result (expression_in in_code built.old after bytes.now) }
 {
     let (so_far, rest) = run_of(alloc, in_code, built, after, bytes)?;
-    let id = ended(built, so_far.instrs)?;
+    let id = ended(alloc, built, so_far.instrs)?;
     Ok((id, rest))
 }
 

@@ -20,16 +20,9 @@ mod tokens;
 mod types;
 mod vectors;
 
-pub use built::{Built, Foreign, Leaf};
+pub use built::Foreign;
 pub use decoder::{DecodeError, decode, decodes_once};
-pub use entries::{export_of, import_of};
 pub use fault::ReadError;
-pub use spelled::{read_bytes, read_name, read_s32, read_s33, read_s64, read_u32, skip_custom};
-pub use tokens::{Token, token_of};
-pub use types::global_type_of;
-pub use vectors::{Item, sized_vector_of, vector_of};
-
-#[cfg(test)]
-mod decode_tests;
-#[cfg(test)]
-mod tests;
+pub use spelled::{
+    read_bytes, read_name, read_s32, read_s64, read_type_index, read_u32, skip_custom,
+};

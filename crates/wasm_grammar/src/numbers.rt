@@ -2,7 +2,7 @@
 
 ghost use Rattle.std.specs.Prelude.{◌≡◌, ◌+◌, ◌≤◌, ◌<◌, ◌^◌, ◌∷◌, [], IfOk, IfSome, MatchOption, length};
 ghost use Rattle.wasm_grammar.specs.Answers.{Gives, IsDecided};
-ghost use Rattle.wasm_grammar.specs.Reading.{leb_at, u32_at, word_of, s32_at, s33_at, s64_at};
+ghost use Rattle.wasm_grammar.specs.Reading.{leb_at, u32_at, word_of, s32_at, type_index_at, s64_at};
 
 use crate::fault::ReadError;
 
@@ -119,10 +119,10 @@ pub fn s64_of(bytes: &[u8]) -> Result<(u64, &[u8]), ReadError>
     }
 }
 
-/// The signed integer of 33 bits at the front, where it isn't negative.
-#[tactic(auto, unfolding(crate::specs::Reading::s33_at))]
-pub fn s33_of(bytes: &[u8]) -> Result<(u32, &[u8]), ReadError>
-    ensures gives { Gives (λ x. (x.0, x.1.now)) result (s33_at bytes.now) }
+/// The index of a type at the front: a signed integer of 33 bits that isn't negative.
+#[tactic(auto, unfolding(crate::specs::Reading::type_index_at))]
+pub fn type_index_of(bytes: &[u8]) -> Result<(u32, &[u8]), ReadError>
+    ensures gives { Gives (λ x. (x.0, x.1.now)) result (type_index_at bytes.now) }
     ensures shorter { IfOk result (λ x. length x.1.now ≤ length bytes.now) }
     ensures decided { IsDecided result }
 {

@@ -82,7 +82,7 @@ fn func_ref_of<'a>(
     let (index, rest) = u32_of(bytes)?;
     let mut instrs = Items::new(alloc);
     instrs.push(Instr::RefFunc(index))?;
-    let id = ended(built, instrs)?;
+    let id = ended(alloc, built, instrs)?;
     Ok((id, rest))
 }
 
@@ -165,7 +165,7 @@ fn exprs_of<'a>(
     ensures shorter { IfOk result (λ x. length x.1.now ≤ length bytes.now) }
     ensures gives { Gives (λ x. ((x.0, built.new), x.1.now)) result (exprs_in built.old after bytes.now) }
 {
-    let (ty, rest) = ref_type_of(built, after, bytes)?;
+    let (ty, rest) = ref_type_of(bytes)?;
     let (items, rest) = vector_of::<BlockId>(alloc, built, after, rest)?;
     Ok(((ty, items), rest))
 }
@@ -249,8 +249,8 @@ impl Item for Data {
         after: u64,
         bytes: &'a [u8],
     ) -> Result<(Data, &'a [u8]), ReadError> {
-        let (flag, rest) = u32_of(bytes)?;
-        match flag {
+        let (kind, rest) = u32_of(bytes)?;
+        match kind {
             0 => {
                 let (mode, rest) = first_of(alloc, built, after, rest)?;
                 data_of(alloc, mode, rest)

@@ -4,11 +4,11 @@
 ghost use Rattle.std.specs.Prelude.{ℕ, List, IfOk};
 ghost use Rattle.wasm_grammar.specs.Answers.{Answers, IsDecided};
 ghost use Rattle.wasm_grammar.specs.Forms.{Front};
-ghost use Rattle.wasm_grammar.specs.Leb128.{IsU32, IsS32, IsS33, IsS64};
+ghost use Rattle.wasm_grammar.specs.Leb128.{IsU32, IsS32, IsTypeIndex, IsS64};
 ghost use Rattle.wasm_grammar.specs.Binary.{IsBytes, IsName, IsCustom};
 
 use crate::fault::ReadError;
-use crate::numbers::{s32_of, s33_of, s64_of, u32_of};
+use crate::numbers::{s32_of, s64_of, type_index_of, u32_of};
 use crate::parts::{behind_custom, name_of, part_of};
 use std::alloc::Global;
 use wasm_syntax::Name;
@@ -40,13 +40,14 @@ pub fn read_s64(bytes: &[u8]) -> Result<(u64, &[u8]), ReadError>
     s64_of(bytes)
 }
 
-/// The signed integer of 33 bits at the front, where it isn't negative, and the bytes behind it.
-pub fn read_s33(bytes: &[u8]) -> Result<(u32, &[u8]), ReadError>
-    ensures spelled { IfOk result (λ x. Front IsS33 0 bytes.now x.0 x.1.now) }
-    ensures only { (n : ℕ) (rest : List ℕ) → Front IsS33 0 bytes.now n rest → Answers {Y = ℕ × List ℕ} (λ x. (x.0, x.1.now)) result (n, rest) }
+/// The index of a type at the front, as a block's type names it (section 5.4.1), and the bytes behind it: a signed integer of 33
+/// bits that isn't negative. A negative one, as the byte 7F for -1, is malformed.
+pub fn read_type_index(bytes: &[u8]) -> Result<(u32, &[u8]), ReadError>
+    ensures spelled { IfOk result (λ x. Front IsTypeIndex 0 bytes.now x.0 x.1.now) }
+    ensures only { (n : ℕ) (rest : List ℕ) → Front IsTypeIndex 0 bytes.now n rest → Answers {Y = ℕ × List ℕ} (λ x. (x.0, x.1.now)) result (n, rest) }
     ensures decided { IsDecided result }
 {
-    s33_of(bytes)
+    type_index_of(bytes)
 }
 
 /// As many bytes as the number at the front tells, lent, and the bytes behind them.

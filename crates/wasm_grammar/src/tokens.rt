@@ -1,6 +1,6 @@
 //! What an expression is spelled by, token by token (WebAssembly Core 2.0, section 5.4).
 
-ghost use Rattle.std.specs.Prelude.{◌≡◌, ◌≤◌, ◌<◌, ◌+◌, ◌^◌, ℕ, IfOk, length, take, drop};
+ghost use Rattle.std.specs.Prelude.{◌≡◌, ◌≤◌, ◌<◌, ◌+◌, ◌^◌, ℕ, Bool, IfOk, length, take, drop};
 ghost use Rattle.wasm_grammar.specs.Answers.{Gives};
 ghost use Rattle.wasm_grammar.specs.declared.built.Built.{Built as BuiltValue};
 ghost use Rattle.wasm_grammar.specs.Reading.{run_at};
@@ -10,13 +10,14 @@ ghost use Rattle.wasm_grammar.specs.Instructions.{block_type_in, mem_arg_at, vec
 
 use crate::built::{Built, Foreign, Leaf, note};
 use crate::fault::ReadError;
-use crate::numbers::{s32_of, s33_of, s64_of, u32_of};
+use crate::numbers::{s32_of, s64_of, type_index_of, u32_of};
 use crate::opcodes::{
     i32_arithmetic, i32_bitwise, i32_test, i64_arithmetic, i64_bitwise, i64_test, is_float,
     is_float_access, load, store,
 };
 use crate::types::{ref_type_of, val_type_of};
 use crate::vectors::vector_of;
+use sqlite_items::Boxed;
 use std::alloc::Global;
 use wasm_syntax::{BlockType, Instr, MemArg, ValType};
 
@@ -52,7 +53,7 @@ fn block_type_of<'a>(
             Ok((BlockType::One(val), rest))
         }
         _ => {
-            let (index, rest) = s33_of(bytes)?;
+            let (index, rest) = type_index_of(bytes)?;
             Ok((BlockType::Index(index), rest))
         }
     }
@@ -113,7 +114,6 @@ fn note_data(in_code: bool, built: &mut Built)
 /// The token of a control instruction, whose opcode was read.
 #[tactic(auto, unfolding(crate::specs::Instructions::shaped_in))]
 fn control_of<'a>(
-    in_code: bool,
     op: u8,
     built: &mut Built,
     after: u64,
@@ -121,7 +121,7 @@ fn control_of<'a>(
 ) -> Result<(Token, &'a [u8]), ReadError>
     requires { after + length bytes.now < 2 ^ 64 }
     ensures shorter { IfOk result (λ x. length x.1.now ≤ length bytes.now) }
-    ensures gives { Gives (λ x. ((x.0, built.new), x.1.now)) result (shaped_in in_code (table.control_shape op) built.old after bytes.now) }
+    ensures gives { (in_code : Bool) → Gives (λ x. ((x.0, built.new), x.1.now)) result (shaped_in in_code (table.control_shape op) built.old after bytes.now) }
 {
     match op {
         0x00 => Ok((Token::Plain(Instr::Unreachable), bytes)),
@@ -148,7 +148,6 @@ fn control_of<'a>(
 #[tactic(auto, unfolding(crate::specs::Instructions::shaped_in))]
 fn branch_of<'a>(
     alloc: Global,
-    in_code: bool,
     op: u8,
     built: &mut Built,
     after: u64,
@@ -156,7 +155,7 @@ fn branch_of<'a>(
 ) -> Result<(Token, &'a [u8]), ReadError>
     requires { after + length bytes.now < 2 ^ 64 }
     ensures shorter { IfOk result (λ x. length x.1.now ≤ length bytes.now) }
-    ensures gives { Gives (λ x. ((x.0, built.new), x.1.now)) result (shaped_in in_code (table.branch_shape op) built.old after bytes.now) }
+    ensures gives { (in_code : Bool) → Gives (λ x. ((x.0, built.new), x.1.now)) result (shaped_in in_code (table.branch_shape op) built.old after bytes.now) }
 {
     match op {
         0x0C => {
@@ -170,7 +169,8 @@ fn branch_of<'a>(
         0x0E => {
             let (labels, rest) = vector_of::<u32>(alloc, built, after, bytes)?;
             let (default, rest) = u32_of(rest)?;
-            Ok((Token::Plain(Instr::BrTable { labels, default }), rest))
+            let labels = Boxed::new(alloc, labels)?;
+            Ok((Token::Plain(Instr::BrTable { default, labels }), rest))
         }
         0x0F => Ok((Token::Plain(Instr::Return), bytes)),
         0x10 => {
@@ -190,7 +190,6 @@ fn branch_of<'a>(
 #[tactic(auto, unfolding(crate::specs::Instructions::shaped_in))]
 fn variable_of<'a>(
     alloc: Global,
-    in_code: bool,
     op: u8,
     built: &mut Built,
     after: u64,
@@ -198,13 +197,14 @@ fn variable_of<'a>(
 ) -> Result<(Token, &'a [u8]), ReadError>
     requires { after + length bytes.now < 2 ^ 64 }
     ensures shorter { IfOk result (λ x. length x.1.now ≤ length bytes.now) }
-    ensures gives { Gives (λ x. ((x.0, built.new), x.1.now)) result (shaped_in in_code (table.variable_shape op) built.old after bytes.now) }
+    ensures gives { (in_code : Bool) → Gives (λ x. ((x.0, built.new), x.1.now)) result (shaped_in in_code (table.variable_shape op) built.old after bytes.now) }
 {
     match op {
         0x1A => Ok((Token::Plain(Instr::Drop), bytes)),
         0x1B => Ok((Token::Plain(Instr::Select), bytes)),
         0x1C => {
             let (types, rest) = vector_of::<ValType>(alloc, built, after, bytes)?;
+            let types = Boxed::new(alloc, types)?;
             Ok((Token::Plain(Instr::SelectTyped(types)), rest))
         }
         0x20 => {
@@ -242,7 +242,6 @@ fn variable_of<'a>(
 /// The token of an access of a memory, whose opcode was read.
 #[tactic(auto, unfolding(crate::specs::Instructions::shaped_in))]
 fn memory_of<'a>(
-    in_code: bool,
     op: u8,
     built: &mut Built,
     after: u64,
@@ -250,7 +249,7 @@ fn memory_of<'a>(
 ) -> Result<(Token, &'a [u8]), ReadError>
     requires { after + length bytes.now + 1 < 2 ^ 64 }
     ensures shorter { IfOk result (λ x. length x.1.now ≤ length bytes.now) }
-    ensures gives { Gives (λ x. ((x.0, built.new), x.1.now)) result (shaped_in in_code (table.memory_shape op) built.old after bytes.now) }
+    ensures gives { (in_code : Bool) → Gives (λ x. ((x.0, built.new), x.1.now)) result (shaped_in in_code (table.memory_shape op) built.old after bytes.now) }
 {
     let left = after + bytes.len() as u64 + 1;
     let (arg, rest) = mem_arg_of(bytes)?;
@@ -268,7 +267,6 @@ fn memory_of<'a>(
 /// The token of a floating instruction with so many bytes behind its opcode, which was read.
 #[tactic(auto, unfolding(crate::specs::Instructions::shaped_in))]
 fn float_of<'a>(
-    in_code: bool,
     count: usize,
     built: &mut Built,
     after: u64,
@@ -276,7 +274,7 @@ fn float_of<'a>(
 ) -> Result<(Token, &'a [u8]), ReadError>
     requires { after + length bytes.now + 1 < 2 ^ 64 }
     ensures shorter { IfOk result (λ x. length x.1.now ≤ length bytes.now) }
-    ensures gives { Gives (λ x. ((x.0, built.new), x.1.now)) result (shaped_in in_code (float_bytes count) built.old after bytes.now) }
+    ensures gives { (in_code : Bool) → Gives (λ x. ((x.0, built.new), x.1.now)) result (shaped_in in_code (float_bytes count) built.old after bytes.now) }
 {
     let left = after + bytes.len() as u64 + 1;
     let rest = behind_run(bytes, count)?;
@@ -288,7 +286,6 @@ fn float_of<'a>(
 /// The token of a constant or of the size of a memory, whose opcode was read.
 #[tactic(auto, unfolding(crate::specs::Instructions::shaped_in))]
 fn constant_of<'a>(
-    in_code: bool,
     op: u8,
     built: &mut Built,
     after: u64,
@@ -296,7 +293,7 @@ fn constant_of<'a>(
 ) -> Result<(Token, &'a [u8]), ReadError>
     requires { after + length bytes.now + 1 < 2 ^ 64 }
     ensures shorter { IfOk result (λ x. length x.1.now ≤ length bytes.now) }
-    ensures gives { Gives (λ x. ((x.0, built.new), x.1.now)) result (shaped_in in_code (table.constant_shape op) built.old after bytes.now) }
+    ensures gives { (in_code : Bool) → Gives (λ x. ((x.0, built.new), x.1.now)) result (shaped_in in_code (table.constant_shape op) built.old after bytes.now) }
 {
     match op {
         0x3F => {
@@ -315,8 +312,8 @@ fn constant_of<'a>(
             let (value, rest) = s64_of(bytes)?;
             Ok((Token::Plain(Instr::I64Const(value)), rest))
         }
-        0x43 => float_of(in_code, 4, built, after, bytes),
-        0x44 => float_of(in_code, 8, built, after, bytes),
+        0x43 => float_of(4, built, after, bytes),
+        0x44 => float_of(8, built, after, bytes),
         _ => Err(ReadError::Malformed),
     }
 }
@@ -324,7 +321,6 @@ fn constant_of<'a>(
 /// The token of a conversion, whose opcode was read.
 #[tactic(auto, unfolding(crate::specs::Instructions::shaped_in))]
 fn conversion_of<'a>(
-    in_code: bool,
     op: u8,
     built: &mut Built,
     after: u64,
@@ -332,7 +328,7 @@ fn conversion_of<'a>(
 ) -> Result<(Token, &'a [u8]), ReadError>
     requires { after + length bytes.now < 2 ^ 64 }
     ensures shorter { IfOk result (λ x. length x.1.now ≤ length bytes.now) }
-    ensures gives { Gives (λ x. ((x.0, built.new), x.1.now)) result (shaped_in in_code (table.conversion_shape op) built.old after bytes.now) }
+    ensures gives { (in_code : Bool) → Gives (λ x. ((x.0, built.new), x.1.now)) result (shaped_in in_code (table.conversion_shape op) built.old after bytes.now) }
 {
     match op {
         0xA7 => Ok((Token::Plain(Instr::I32WrapI64), bytes)),
@@ -350,7 +346,6 @@ fn conversion_of<'a>(
 /// The token of a reference instruction, whose opcode was read.
 #[tactic(auto, unfolding(crate::specs::Instructions::shaped_in))]
 fn reference_of<'a>(
-    in_code: bool,
     op: u8,
     built: &mut Built,
     after: u64,
@@ -358,11 +353,11 @@ fn reference_of<'a>(
 ) -> Result<(Token, &'a [u8]), ReadError>
     requires { after + length bytes.now < 2 ^ 64 }
     ensures shorter { IfOk result (λ x. length x.1.now ≤ length bytes.now) }
-    ensures gives { Gives (λ x. ((x.0, built.new), x.1.now)) result (shaped_in in_code (table.reference_shape op) built.old after bytes.now) }
+    ensures gives { (in_code : Bool) → Gives (λ x. ((x.0, built.new), x.1.now)) result (shaped_in in_code (table.reference_shape op) built.old after bytes.now) }
 {
     match op {
         0xD0 => {
-            let (ty, rest) = ref_type_of(built, after, bytes)?;
+            let (ty, rest) = ref_type_of(bytes)?;
             Ok((Token::Plain(Instr::RefNull(ty)), rest))
         }
         0xD1 => Ok((Token::Plain(Instr::RefIsNull), bytes)),
@@ -377,7 +372,6 @@ fn reference_of<'a>(
 /// The token of an integer operation, whose opcode was read.
 #[tactic(auto, unfolding(crate::specs::Instructions::shaped_in))]
 fn integer_of<'a>(
-    in_code: bool,
     op: u8,
     built: &mut Built,
     after: u64,
@@ -385,7 +379,7 @@ fn integer_of<'a>(
 ) -> Result<(Token, &'a [u8]), ReadError>
     requires { after + length bytes.now < 2 ^ 64 }
     ensures shorter { IfOk result (λ x. length x.1.now ≤ length bytes.now) }
-    ensures gives { Gives (λ x. ((x.0, built.new), x.1.now)) result (shaped_in in_code (table.integer_shape op) built.old after bytes.now) }
+    ensures gives { (in_code : Bool) → Gives (λ x. ((x.0, built.new), x.1.now)) result (shaped_in in_code (table.integer_shape op) built.old after bytes.now) }
 {
     if op < 0x50 {
         return Ok((Token::Plain(i32_test(op)), bytes));
@@ -420,30 +414,30 @@ fn instruction_of<'a>(
     ensures gives { Gives (λ x. ((x.0, built.new), x.1.now)) result (shaped_in in_code (table.shape_of op) built.old after bytes.now) }
 {
     if is_float(op) {
-        return float_of(in_code, 0, built, after, bytes);
+        return float_of(0, built, after, bytes);
     }
     if op < 0x0C {
-        return control_of(in_code, op, built, after, bytes);
+        return control_of(op, built, after, bytes);
     }
     if op < 0x1A {
-        return branch_of(alloc, in_code, op, built, after, bytes);
+        return branch_of(alloc, op, built, after, bytes);
     }
     if op < 0x28 {
-        return variable_of(alloc, in_code, op, built, after, bytes);
+        return variable_of(alloc, op, built, after, bytes);
     }
     if op < 0x3F {
-        return memory_of(in_code, op, built, after, bytes);
+        return memory_of(op, built, after, bytes);
     }
     if op < 0x45 {
-        return constant_of(in_code, op, built, after, bytes);
+        return constant_of(op, built, after, bytes);
     }
     if op < 0x8B {
-        return integer_of(in_code, op, built, after, bytes);
+        return integer_of(op, built, after, bytes);
     }
     if op < 0xD0 {
-        return conversion_of(in_code, op, built, after, bytes);
+        return conversion_of(op, built, after, bytes);
     }
-    reference_of(in_code, op, built, after, bytes)
+    reference_of(op, built, after, bytes)
 }
 
 /// The token of a bulk instruction, whose number was read.
@@ -534,14 +528,13 @@ fn prefixed_of<'a>(
 
 /// The token of a constant vector, of whose opcode the byte FD was read.
 fn vector_constant_of<'a>(
-    in_code: bool,
     built: &mut Built,
     after: u64,
     bytes: &'a [u8],
 ) -> Result<(Token, &'a [u8]), ReadError>
     requires { after + length bytes.now + 1 < 2 ^ 64 }
     ensures shorter { IfOk result (λ x. length x.1.now ≤ length bytes.now) }
-    ensures gives { Gives (λ x. ((x.0, built.new), x.1.now)) result (vector_constant_in in_code built.old after bytes.now) }
+    ensures gives { (in_code : Bool) → Gives (λ x. ((x.0, built.new), x.1.now)) result (vector_constant_in in_code built.old after bytes.now) }
 {
     let left = after + bytes.len() as u64 + 1;
     let rest = behind_vector_constant(bytes)?;
@@ -569,7 +562,7 @@ pub fn token_of<'a>(
         return prefixed_of(in_code, built, after, rest);
     }
     if *op == 0xFD && !in_code {
-        return vector_constant_of(in_code, built, after, rest);
+        return vector_constant_of(built, after, rest);
     }
     instruction_of(alloc, in_code, *op, built, after, rest)
 }

@@ -1,6 +1,7 @@
 //! Types (WebAssembly Core 2.0, section 5.3).
 
-ghost use Rattle.std.specs.Prelude.{◌≡◌, ◌≤◌, ◌<◌, ◌+◌, ◌^◌, IfOk, length};
+ghost use Rattle.std.specs.Prelude.{◌≡◌, ◌≤◌, ◌<◌, ◌+◌, ◌^◌, ℕ, IfOk, length};
+ghost use Rattle.wasm_grammar.specs.declared.built.Built.{Built as BuiltValue};
 ghost use Rattle.wasm_grammar.specs.Answers.{Gives};
 ghost use Rattle.wasm_grammar.specs.Types.{val_in, ref_in, func_type_in, limits_in, table_type_in, mutability_in, global_type_in};
 
@@ -53,14 +54,9 @@ pub fn val_type_of<'a>(
 }
 
 /// The reference type at the front.
-pub fn ref_type_of<'a>(
-    built: &mut Built,
-    after: u64,
-    bytes: &'a [u8],
-) -> Result<(ValType, &'a [u8]), ReadError>
-    requires { after + length bytes.now < 2 ^ 64 }
+pub fn ref_type_of(bytes: &[u8]) -> Result<(ValType, &[u8]), ReadError>
     ensures shorter { IfOk result (λ x. length x.1.now ≤ length bytes.now) }
-    ensures gives { Gives (λ x. ((x.0, built.new), x.1.now)) result (ref_in built.old after bytes.now) }
+    ensures gives { (s : BuiltValue) (after : ℕ) → Gives (λ x. ((x.0, s), x.1.now)) result (ref_in s after bytes.now) }
 {
     match bytes {
         [0x70, rest @ ..] => Ok((ValType::FuncRef, rest)),
@@ -91,14 +87,9 @@ pub fn func_type_of<'a>(
 }
 
 /// The limits at the front.
-pub fn limits_of<'a>(
-    built: &mut Built,
-    after: u64,
-    bytes: &'a [u8],
-) -> Result<(Limit, &'a [u8]), ReadError>
-    requires { after + length bytes.now < 2 ^ 64 }
+pub fn limits_of(bytes: &[u8]) -> Result<(Limit, &[u8]), ReadError>
     ensures shorter { IfOk result (λ x. length x.1.now ≤ length bytes.now) }
-    ensures gives { Gives (λ x. ((x.0, built.new), x.1.now)) result (limits_in built.old after bytes.now) }
+    ensures gives { (s : BuiltValue) (after : ℕ) → Gives (λ x. ((x.0, s), x.1.now)) result (limits_in s after bytes.now) }
 {
     match bytes {
         [0x00, rest @ ..] => {
@@ -121,29 +112,19 @@ pub fn limits_of<'a>(
 }
 
 /// The table type at the front.
-pub fn table_type_of<'a>(
-    built: &mut Built,
-    after: u64,
-    bytes: &'a [u8],
-) -> Result<(TableType, &'a [u8]), ReadError>
-    requires { after + length bytes.now < 2 ^ 64 }
+pub fn table_type_of(bytes: &[u8]) -> Result<(TableType, &[u8]), ReadError>
     ensures shorter { IfOk result (λ x. length x.1.now ≤ length bytes.now) }
-    ensures gives { Gives (λ x. ((x.0, built.new), x.1.now)) result (table_type_in built.old after bytes.now) }
+    ensures gives { (s : BuiltValue) (after : ℕ) → Gives (λ x. ((x.0, s), x.1.now)) result (table_type_in s after bytes.now) }
 {
-    let (elem, rest) = ref_type_of(built, after, bytes)?;
-    let (limit, rest) = limits_of(built, after, rest)?;
+    let (elem, rest) = ref_type_of(bytes)?;
+    let (limit, rest) = limits_of(rest)?;
     Ok((TableType { elem, limit }, rest))
 }
 
 /// Whether the global at the front may be set.
-fn mutability_of<'a>(
-    built: &mut Built,
-    after: u64,
-    bytes: &'a [u8],
-) -> Result<(bool, &'a [u8]), ReadError>
-    requires { after + length bytes.now < 2 ^ 64 }
+fn mutability_of(bytes: &[u8]) -> Result<(bool, &[u8]), ReadError>
     ensures shorter { IfOk result (λ x. length x.1.now ≤ length bytes.now) }
-    ensures gives { Gives (λ x. ((x.0, built.new), x.1.now)) result (mutability_in built.old after bytes.now) }
+    ensures gives { (s : BuiltValue) (after : ℕ) → Gives (λ x. ((x.0, s), x.1.now)) result (mutability_in s after bytes.now) }
 {
     match bytes {
         [0x00, rest @ ..] => Ok((false, rest)),
@@ -163,6 +144,6 @@ pub fn global_type_of<'a>(
     ensures gives { Gives (λ x. ((x.0, built.new), x.1.now)) result (global_type_in built.old after bytes.now) }
 {
     let (val, rest) = val_type_of(built, after, bytes)?;
-    let (mutable, rest) = mutability_of(built, after, rest)?;
+    let (mutable, rest) = mutability_of(rest)?;
     Ok((GlobalType { val, mutable }, rest))
 }

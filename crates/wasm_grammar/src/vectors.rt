@@ -78,11 +78,11 @@ impl Item for TableType {
 
     fn read<'a>(
         _alloc: Global,
-        built: &mut Built,
-        after: u64,
+        _built: &mut Built,
+        _after: u64,
         bytes: &'a [u8],
     ) -> Result<(TableType, &'a [u8]), ReadError> {
-        table_type_of(built, after, bytes)
+        table_type_of(bytes)
     }
 }
 
@@ -91,11 +91,11 @@ impl Item for Limit {
 
     fn read<'a>(
         _alloc: Global,
-        built: &mut Built,
-        after: u64,
+        _built: &mut Built,
+        _after: u64,
         bytes: &'a [u8],
     ) -> Result<(Limit, &'a [u8]), ReadError> {
-        limits_of(built, after, bytes)
+        limits_of(bytes)
     }
 }
 

@@ -1,4 +1,4 @@
-use Rattle.std.proofs.Common.{◌≡◌, sym, ◌∙◌}
+use Rattle.std.proofs.Common.{sym, ◌∙◌}
 use Rattle.wasm_grammar.specs.Module.{module_in}
 use Rattle.wasm_grammar.specs.Decoding.{read_as}
 use Rattle.wasm_grammar.proofs.Decided.{read_decodes, decodes_read}

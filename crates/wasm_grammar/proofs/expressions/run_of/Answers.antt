@@ -1,4 +1,4 @@
-use Rattle.std.proofs.Common.{◌≡◌, length, sym, ◌∙◌, arith}
+use Rattle.std.proofs.Common.{length, sym, ◌∙◌, arith}
 use Rattle.std.proofs.lemmas.Result.{err_from_is_err_and}
 use Rattle.wasm_grammar.specs.Running.{state}
 use Rattle.wasm_grammar.proofs.Passing.{goes_on, stops, no_token, no_step, cuts, run_out}
