@@ -1,5 +1,5 @@
 -- What the instructions of a body do to the lists of its frame.
-use Rattle.std.proofs.Common.{◌≡◌, ℕ, zero, suc, ◌+◌, ◌-◌, ◌<◌, ◌≤◌, List, [], ◌∷◌, ◌++◌, length, map, reverse, drop, Option, Some, None, refl, sym, ap, subst, ◌∙◌, arith}
+use Rattle.std.proofs.Common.{◌≡◌, ℕ, zero, suc, ◌+◌, ◌-◌, ◌<◌, ◌≤◌, List, [], ◌∷◌, ◌++◌, length, drop, Option, Some, None, refl, sym, ap, subst, ◌∙◌, arith}
 use Rattle.std.specs.List.{slice_get}
 use Rattle.std.proofs.Common.{slice_set, slice_index_or}
 use Rattle.std.proofs.lemmas.Option.{slice_get-map, slice_get_read, slice_get-get_or}
@@ -8,10 +8,9 @@ use Rattle.std.proofs.Math.ListN.{drop_of_length-le}
 use Rattle.std.proofs.lemmas.List.{reverse-append, map-set, at_drop_more}
 use Rattle.wasm_syntax.specs.declared.instructions.Instr.{Instr}
 use Rattle.wasm_syntax.specs.declared.instructions.Instr.TheVariants as i
-use Rattle.wasm_syntax.specs.declared.value.Value.{Value}
 use Rattle.wasm_syntax.specs.declared.value.Value.TheVariants as w
-use Rattle.wasm_machine.specs.Terms.{frame, Term, here, inside}
-use Rattle.wasm_machine.specs.Reduction.{Act, goes, stuck, act, after_act, reduce}
+use Rattle.wasm_machine.specs.Terms.{frame, here}
+use Rattle.wasm_machine.specs.Reduction.{Act, goes, stuck, act, after_act}
 use Rattle.wasm_machine.specs.Small.{run}
 use Rattle.wasm_machine.specs.Frames.{values_of, tops_of, run_left, Finds, operands_after, Flows}
 

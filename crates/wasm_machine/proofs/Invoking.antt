@@ -15,7 +15,7 @@ use Rattle.wasm_valid.specs.Typing.{is_block, most_nested, few_locals, typed_wit
 use Rattle.wasm_valid.specs.Operands.{exactly, ends_with}
 use Rattle.std.specs.Option.{IfSome}
 use Rattle.wasm_valid.specs.ModuleRules.{is_framed, is_typed_module}
-use Rattle.wasm_machine.specs.Small.{is_i32, are_i32, is_one_i32, is_small_type, is_small_instr, are_i32_runs, are_small_instrs, is_small_func, are_small_types, are_small_exports, are_small_funcs, has_small_sections, is_small_form, default_of, declared_locals, small_result, result_of}
+use Rattle.wasm_machine.specs.Small.{is_i32, are_i32, is_one_i32, is_small_type, are_i32_runs, are_small_instrs, is_small_func, are_small_types, are_small_exports, are_small_funcs, has_small_sections, is_small_form, default_of, declared_locals, small_result}
 use Rattle.wasm_machine.specs.Frames.{run_left, Units, Flows}
 use Rattle.wasm_machine.specs.Invocations.{TakesArguments, zeros_of, UnitsOf}
 use Rattle.wasm_machine.proofs.Flowing.{flows}

@@ -1,6 +1,6 @@
 -- The reduction of core terms (WebAssembly Core 2.0, section 4.4): it rewrites the one form at work, which is found from the outermost
 -- level inward.
-use Rattle.std.specs.Prelude.{ℕ, ◌+◌, List, [], ◌∷◌, ◌++◌, Option, Some, None, slice_get, slice_set, take}
+use Rattle.std.specs.Prelude.{ℕ, List, [], ◌∷◌, ◌++◌, Option, Some, None, slice_get, slice_set, take}
 use Rattle.wasm_syntax.specs.declared.instructions.Instr.{Instr}
 use Rattle.wasm_syntax.specs.declared.instructions.Instr.TheVariants as i
 use Rattle.wasm_syntax.specs.declared.value.Value.{Value}

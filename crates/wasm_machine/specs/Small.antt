@@ -1,6 +1,6 @@
 -- The modules of the first form, and what their functions give: of sections there are those of types, functions, exports and code
 -- alone, of types i32 alone, and of instructions i32.const, local.get, local.set, local.tee and i32.add.
-use Rattle.std.specs.Prelude.{ℕ, zero, suc, Bool, true, false, ◌&&◌, List, [], ◌∷◌, ◌++◌, length, map, flat_map, replicate, Option, Some, None, is_none, slice_get}
+use Rattle.std.specs.Prelude.{ℕ, suc, Bool, true, false, ◌&&◌, List, [], ◌∷◌, ◌++◌, map, flat_map, replicate, Option, Some, None, is_none, slice_get}
 use Rattle.std.specs.List.{list_all}
 use Rattle.wasm_syntax.specs.Blocks.{block_of}
 use Rattle.wasm_syntax.specs.declared.types.ValType.{ValType}
@@ -15,7 +15,6 @@ use Rattle.wasm_syntax.specs.declared.module.Func.{Func}
 use Rattle.wasm_syntax.specs.declared.module.Module.{Module}
 use Rattle.wasm_syntax.specs.declared.value.Value.{Value}
 use Rattle.wasm_syntax.specs.declared.value.Value.TheVariants as w
-use Rattle.wasm_syntax.specs.declared.addresses.FuncAddr.{FuncAddr}
 use Rattle.wasm_machine.specs.Terms.{frame, Term, here, inside}
 use Rattle.wasm_machine.specs.Reduction.{Does, rewrites, gives, reduce}
 

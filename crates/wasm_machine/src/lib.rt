@@ -8,6 +8,3 @@ mod invocation;
 
 pub use form::small;
 pub use invocation::run_small;
-
-#[cfg(test)]
-mod tests;

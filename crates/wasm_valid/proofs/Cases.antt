@@ -10,7 +10,8 @@ use Rattle.wasm_syntax.specs.declared.instructions.Instr.TheVariants.{Unreachabl
 use Rattle.wasm_syntax.specs.declared.module.ExportDesc.TheVariants as e
 use Rattle.wasm_syntax.specs.declared.module.Module.{Module}
 use Rattle.wasm_valid.specs.Typing.{most_nested, most_locals, is_typed_body, body_height}
-use Rattle.wasm_valid.specs.ModuleRules.{is_numbered, is_framed, is_typed_module, refused_function, names_differ}
+use Rattle.wasm_syntax.specs.Numbering.{is_numbered}
+use Rattle.wasm_valid.specs.ModuleRules.{is_framed, is_typed_module, refused_function, names_differ}
 
 -- a module with one function of this type, these blocks and the body with this number
 abbrev with_body : FuncType → List (List Instr) → ℕ → Module
@@ -87,7 +88,7 @@ undeclared = refl
 -- block (i32.const, if (br 0) else (nop)), in a function without results
 branches : ℕ → ℕ → ℕ → ℕ → Module
 branches a b c d =
-    with_body (function_of [] []) ((Br 0 ∷ []) ∷ (Nop ∷ []) ∷ (I32Const 1 ∷ If Empty (block a) (block b) ∷ []) ∷ (Block Empty (block c) ∷ []) ∷ []) d
+    with_body (function_of [] []) ((Br 0 ∷ []) ∷ (Nop ∷ []) ∷ (I32Const 1 ∷ If (record { ty = Empty; body = block a; other = block b }) ∷ []) ∷ (Block Empty (block c) ∷ []) ∷ []) d
 
 -- blocks are numbered as they end
 numbered : is_typed_module (branches 0 1 2 3) ≡ true
@@ -123,12 +124,12 @@ unreached_results = refl
 
 -- labels of a table have as many types as the default one, and each fits
 uneven_labels : is_typed_module
-    (with_body (function_of [] (I32 ∷ [])) ((I32Const 0 ∷ I32Const 0 ∷ BrTable (0 ∷ []) 1 ∷ []) ∷ (Block Empty (block 0) ∷ I32Const 0 ∷ []) ∷ []) 1) ≡ false
+    (with_body (function_of [] (I32 ∷ [])) ((I32Const 0 ∷ I32Const 0 ∷ BrTable 1 (0 ∷ []) ∷ []) ∷ (Block Empty (block 0) ∷ I32Const 0 ∷ []) ∷ []) 1) ≡ false
 unfolding is_typed_module is_framed refused_function most_nested most_locals
 uneven_labels = refl
 
 even_labels : is_typed_module
-    (with_body (function_of [] (I32 ∷ [])) ((I32Const 0 ∷ I32Const 0 ∷ BrTable (0 ∷ 1 ∷ []) 1 ∷ []) ∷ (Block (One I32) (block 0) ∷ []) ∷ []) 1) ≡ true
+    (with_body (function_of [] (I32 ∷ [])) ((I32Const 0 ∷ I32Const 0 ∷ BrTable 1 (0 ∷ 1 ∷ []) ∷ []) ∷ (Block (One I32) (block 0) ∷ []) ∷ []) 1) ≡ true
 unfolding is_typed_module is_framed refused_function most_nested most_locals
 even_labels = refl
 

@@ -2,6 +2,9 @@
 use Rattle.std.proofs.Common.{◌≡◌, ℕ, ◌+◌, ◌<◌, ◌≤◌, Bool, true, false, not, cond, ◌&&◌, ◌||◌, List, [], ◌∷◌, ◌++◌, length, take, drop, get_or, refl, sym, ◌∙◌, ap}
 use Rattle.std.specs.List.{list_any, list_all}
 use Rattle.std.specs.Str.{bytes_eq}
+use Rattle.std.specs.Cmp.Lexicographic.{slice_cmp}
+use Rattle.std.specs.Ordering.{is_eq, nat_cmp}
+use Rattle.std.proofs.lemmas.Map.Text.{is_eq-slice_cmp}
 use Rattle.std.proofs.lemmas.List.{take_more, drop_more, drop_all}
 use denote.Ref.{Bor}
 use Rattle.wasm_syntax.specs.declared.module.Export.{Export}
@@ -78,13 +81,14 @@ fresh_end es i h = ap (fresh (take i es)) (drop_all i es h)
 
 -- the names of a set are those of these exports
 abbrev pub Knows : List Export → List (Bor (List ℕ)) → Type 0
-Knows seen keys = (q : Bor (List ℕ)) → list_any (λ k. bytes_eq q.now k.now) keys ≡ is_named q.now seen
+Knows seen keys = (q : Bor (List ℕ)) → list_any (λ k. is_eq (slice_cmp nat_cmp q.now k.now)) keys ≡ is_named q.now seen
 
 pub knows_next : (es : List Export) (i : ℕ) (d : Export) (w : Bor (List ℕ)) (keys more : List (Bor (List ℕ))) → i < length es → w.now ≡ (get_or es i d).name
-    → ((q : Bor (List ℕ)) → list_any (λ k. bytes_eq q.now k.now) more ≡ cond (bytes_eq w.now q.now) true (list_any (λ k. bytes_eq q.now k.now) keys))
+    → ((q : Bor (List ℕ)) → list_any (λ k. is_eq (slice_cmp nat_cmp q.now k.now)) more ≡ cond (is_eq (slice_cmp nat_cmp w.now q.now)) true (list_any (λ k. is_eq (slice_cmp nat_cmp q.now k.now)) keys))
     → Knows (take i es) keys → Knows (take (i + 1) es) more
 knows_next es i d w keys more h e updates known q =
-    updates q ∙ ap (λ b. cond (bytes_eq w.now q.now) true b) (known q) ∙ ap (λ n. cond (bytes_eq n q.now) true (is_named q.now (take i es))) e
+    updates q ∙ ap (λ b. cond b true (list_any (λ k. is_eq (slice_cmp nat_cmp q.now k.now)) keys)) (is_eq-slice_cmp w.now q.now)
+    ∙ ap (λ b. cond (bytes_eq w.now q.now) true b) (known q) ∙ ap (λ n. cond (bytes_eq n q.now) true (is_named q.now (take i es))) e
     ∙ either (bytes_eq (get_or es i d).name q.now) (is_named q.now (take i es))
     ∙ sym (named-append q.now (take i es) (get_or es i d)) ∙ ap (is_named q.now) (sym (take_more es i d h))
   where
@@ -112,3 +116,12 @@ goes_on es i e name h f g named left =
     left ∙ fresh_next es i e h
     ∙ ap (λ n. not (is_named n (take i es)) && fresh (take (i + 1) es) (drop (i + 1) es)) (sym (name_at es i e name f g))
     ∙ ap (λ b. not b && fresh (take (i + 1) es) (drop (i + 1) es)) named
+
+-- whether a name is new to the set
+pub was_there : (is_new had : Bool) → is_new ≡ not had → is_new ≡ false → had ≡ true
+was_there is_new true e f = refl
+was_there is_new false e f = sym f ∙ e
+
+pub was_new : (is_new had : Bool) → is_new ≡ not had → is_new ≡ true → had ≡ false
+was_new is_new true e f = sym f ∙ e
+was_new is_new false e f = refl

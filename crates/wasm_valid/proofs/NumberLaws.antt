@@ -7,7 +7,7 @@ use Rattle.std.proofs.lemmas.Bool.Decides.{eqb_tells}
 use Rattle.wasm_syntax.specs.Blocks.{block_of}
 use Rattle.wasm_syntax.specs.declared.instructions.BlockId.{BlockId}
 use Rattle.wasm_syntax.specs.declared.module.Module.{Module}
-use Rattle.wasm_valid.specs.ModuleRules.{nested_in, ends_in, outermost, counts_to, is_numbered}
+use Rattle.wasm_syntax.specs.Numbering.{nested_in, ends_in, outermost, counts_to, is_numbered}
 
 and_false : (a : Bool) → (a && false) ≡ false
 and_false true = refl

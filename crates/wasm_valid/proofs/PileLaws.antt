@@ -1,11 +1,11 @@
 -- Laws of lists whose topmost element is the last one.
-use Rattle.std.proofs.Common.{◌≡◌, ℕ, ◌+◌, ◌-◌, ◌<◌, ◌≤◌, Bool, true, false, List, [], ◌∷◌, ◌++◌, Option, Some, length, reverse, take, drop, get_or, refl, sym, ◌∙◌, ap, subst, is_some, arith, nat_eq, eq-eqb}
+use Rattle.std.proofs.Common.{◌≡◌, ℕ, ◌+◌, ◌-◌, ◌<◌, ◌≤◌, Bool, true, false, ◌&&◌, List, [], ◌∷◌, ◌++◌, Option, Some, length, reverse, take, drop, get_or, refl, sym, ◌∙◌, ap, subst, is_some, arith, nat_eq, eq-eqb}
 use Rattle.std.proofs.lemmas.Bool.{ne_eqb}
 use Rattle.std.proofs.lemmas.List.{take_more, reverse-append, length-reverse, length-take, length-take-le, length-drop, drop-append-le, take-append-drop, take_at, drop_at, take_all as take_whole, drop_all}
 use Rattle.wasm_syntax.specs.declared.types.ValType.{ValType}
 use Rattle.wasm_valid.specs.Spaces.{when, then_}
-use Rattle.wasm_valid.specs.Operands.{take_all, fits, anything, is_empty}
-use Rattle.wasm_valid.specs.Piles.{Pile, pile_of}
+use Rattle.wasm_valid.specs.Operands.{Operands, take_all, fits, anything, is_empty}
+use Rattle.wasm_valid.specs.Piles.{Pile, pile_of, is_anything}
 
 -- one more element on top
 pub reverse_more : {X : Type 0} (xs : List X) (n : ℕ) (d : X) → 0 < n → n ≤ length xs → reverse (take n xs) ≡ get_or xs (n - 1) d ∷ reverse (take (n - 1) xs)
@@ -78,6 +78,21 @@ spent_is list base any p n view stands len =
 pub take_all-anything : (ts : List ValType) → take_all ts anything ≡ Some anything
 take_all-anything [] = refl
 take_all-anything (t ∷ ts) = take_all-anything ts
+
+-- so it is where nothing is
+pub taken_at_once : (ts : List ValType) (s : Operands) → is_anything s ≡ true → take_all ts s ≡ Some s
+taken_at_once ts s e = by_parts s.types s.any e
+  where
+    by_parts : (us : List (Option ValType)) (any : Bool) → (any && is_empty us) ≡ true → take_all ts (record { types = us; any = any }) ≡ Some (record { types = us; any = any })
+    by_parts [] true e = take_all-anything ts
+    by_parts (u ∷ us) true e = cc
+    by_parts us false e = cc
+
+-- whether nothing is there
+pub anything_is : (list : List (Option ValType)) (base : ℕ) (any : Bool) (p : Pile) (n : ℕ)
+    → pile_of list base any ≡ p → base ≤ length list → n ≡ length list → (any && nat_eq n base) ≡ is_anything p.own
+anything_is list base any p n view stands len =
+    ap (λ b. any && b) (spent_is list base any p n view stands len) ∙ ap (λ b. b && is_empty p.own.types) (ap (λ (x : Pile). x.own.any) view)
 
 -- types that are left where no operands are
 pub no_more : (types : List ValType) (left : ℕ) (d : ValType) (list : List (Option ValType)) (base at : ℕ) (any : Bool)

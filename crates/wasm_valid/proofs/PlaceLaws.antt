@@ -9,7 +9,9 @@ use Rattle.wasm_syntax.specs.declared.types.FuncType.{FuncType}
 use Rattle.wasm_syntax.specs.declared.instructions.BlockId.{BlockId}
 use Rattle.wasm_syntax.specs.declared.instructions.Instr.{Instr}
 use Rattle.wasm_syntax.specs.declared.module.Module.{Module}
-use Rattle.wasm_valid.specs.declared.sorts.Nesting.{Nesting}
+use Rattle.wasm_syntax.specs.declared.sorts.Nesting.{Nesting}
+use Rattle.wasm_syntax.specs.declared.sorts.Sort.{Sort}
+use Rattle.wasm_syntax.specs.declared.sorts.Sort.TheVariants as sort
 use Rattle.wasm_valid.specs.declared.opens.Open.{Open}
 use Rattle.wasm_valid.specs.declared.opens.Outer.{Outer}
 use Rattle.wasm_valid.specs.declared.operands.Saved.{Saved}
@@ -17,13 +19,14 @@ use Rattle.wasm_valid.specs.declared.pass.Step.{Step}
 use Rattle.wasm_valid.specs.declared.pass.Step.TheVariants.{Went, Untyped, Ended}
 use Rattle.wasm_valid.specs.declared.types.Types.{Types}
 use Rattle.wasm_valid.specs.declared.types.Types.TheVariants as y
-use Rattle.wasm_valid.specs.Spaces.{when, then_, block_type}
-use Rattle.wasm_valid.specs.Sorts.{nesting_of}
+use Rattle.wasm_syntax.specs.Sorts.{sort_of, nesting_in, nesting_of}
+use Rattle.wasm_syntax.specs.ValueTypes.{block_type}
+use Rattle.wasm_valid.specs.Spaces.{when, then_}
 use Rattle.wasm_valid.specs.Operands.{Operands, exactly, put, take_all, ends_with, is_spent}
 use Rattle.wasm_valid.specs.Signatures.{types_in}
 use Rattle.wasm_valid.specs.declared.opens.Opens.{Opens}
 use Rattle.wasm_valid.specs.Piles.{Becomes, Pile}
-use Rattle.wasm_valid.specs.Typing.{Blocks, Heights, by_nesting, Context, after, after_all, after_flat, holding, tested, label_of, with_label, is_block, most_nested, other_is, height_all, height_on, height_within, block_height, other_height, count_at}
+use Rattle.wasm_valid.specs.Typing.{Blocks, Heights, Context, after, after_all, after_flat, after_sort, after_nested, holding, tested, label_of, with_label, is_block, most_nested, other_is, height_all, height_on, height_within, block_height, other_height, count_at}
 use Rattle.wasm_valid.specs.Places.{Goes, Moves, Closes, step_of, start_of, Reached, NestsAt, next_open, label_by, opened_by, place_of, Frame, Place, IsPlace, IsStacked, Steps, labels_in, context_in, type_in, depth_in, rest_of, own_of, under_of, outer_typed, left_typed, rest_height, outer_height, left_height, code_work, nested_work, other_work, block_work, left_work}
 
 pub slice_get-map : {X Y : Type 0} (f : X → Y) (xs : List X) (k : ℕ) (d : X) → k < length xs → slice_get (map f xs) k ≡ Some (f (get_or xs k d))
@@ -60,26 +63,57 @@ same_nested n U L N M X OUT h = omega arith
 
 -- Code.
 
+-- an instruction that holds no blocks, and one that holds some
+flat_sort : (b : Blocks) (m : Module) (c : Context) (i : Instr) (k : Sort) (s : Operands) → nesting_in k ≡ None → after_sort b m c i k s ≡ after_flat m c i k s
+flat_sort b m c i (sort.Simple p) s e = refl
+flat_sort b m c i (sort.Nested n) s e = cc
+flat_sort b m c i sort.Unreachable s e = refl
+flat_sort b m c i (sort.Br l) s e = refl
+flat_sort b m c i (sort.BrIf l) s e = refl
+flat_sort b m c i (sort.BrTable l) s e = refl
+flat_sort b m c i sort.Return s e = refl
+flat_sort b m c i (sort.Call x) s e = refl
+flat_sort b m c i (sort.CallIndirect x y) s e = refl
+flat_sort b m c i sort.Drop s e = refl
+flat_sort b m c i sort.Select s e = refl
+flat_sort b m c i sort.SelectTyped s e = refl
+flat_sort b m c i sort.RefIsNull s e = refl
+
+pub holds_none : (k : Sort) → ((n : Nesting) → k ≡ sort.Nested n → ⊥) → nesting_in k ≡ None
+holds_none (sort.Nested n) h = absurd (h n refl)
+holds_none k h = refl
+
+nested_sort : (b : Blocks) (m : Module) (c : Context) (i : Instr) (k : Sort) (n : Nesting) (s : Operands) → nesting_in k ≡ Some n → after_sort b m c i k s ≡ after_nested b m c n s
+nested_sort b m c i (sort.Nested n') n s e = let same : n' ≡ n = cc in ap (λ x. after_nested b m c x s) same
+nested_sort b m c i k n s e = cc
+
+pub flat_after : (b : Blocks) (m : Module) (c : Context) (i : Instr) (s : Operands) → nesting_of i ≡ None → after b m c i s ≡ after_flat m c i (sort_of i) s
+flat_after b m c i s e = flat_sort b m c i (sort_of i) s e
+
+pub nested_after : (b : Blocks) (m : Module) (c : Context) (i : Instr) (n : Nesting) (s : Operands) → nesting_of i ≡ Some n → after b m c i s ≡ after_nested b m c n s
+nested_after b m c i n s e = nested_sort b m c i (sort_of i) n s e
+
 pub code_step : (b : Blocks) (m : Module) (c : Context) (i : Instr) (is code : List Instr) (s s' : Operands)
-    → code ≡ i ∷ is → nesting_of i ≡ None → after_flat m c i s ≡ Some s' → after_all b m c code s ≡ after_all b m c is s'
+    → code ≡ i ∷ is → nesting_of i ≡ None → after_flat m c i (sort_of i) s ≡ Some s' → after_all b m c code s ≡ after_all b m c is s'
 code_step b m c i is code s s' e n f =
     ap (λ k. after_all b m c k s) e
-    ∙ ap (λ o. then_ (by_nesting o b m c i s) (after_all b m c is)) n
+    ∙ ap (λ o. then_ o (after_all b m c is)) (flat_after b m c i s n)
     ∙ ap (λ o. then_ o (after_all b m c is)) f
 
 pub code_stuck : (b : Blocks) (m : Module) (c : Context) (i : Instr) (is code : List Instr) (s : Operands)
-    → code ≡ i ∷ is → nesting_of i ≡ None → after_flat m c i s ≡ None → after_all b m c code s ≡ None
+    → code ≡ i ∷ is → nesting_of i ≡ None → after_flat m c i (sort_of i) s ≡ None → after_all b m c code s ≡ None
 code_stuck b m c i is code s e n f =
     ap (λ k. after_all b m c k s) e
-    ∙ ap (λ o. then_ (by_nesting o b m c i s) (after_all b m c is)) n
+    ∙ ap (λ o. then_ o (after_all b m c is)) (flat_after b m c i s n)
     ∙ ap (λ o. then_ o (after_all b m c is)) f
 
 pub height_step : (h : Heights) (b : Blocks) (m : Module) (c : Context) (i : Instr) (is code : List Instr) (s s' : Operands)
-    → code ≡ i ∷ is → nesting_of i ≡ None → after_flat m c i s ≡ Some s'
+    → code ≡ i ∷ is → nesting_of i ≡ None → after_flat m c i (sort_of i) s ≡ Some s'
     → height_all h b m c code s ≡ max (length s.types) (max 0 (height_all h b m c is s'))
 height_step h b m c i is code s s' e n f =
     ap (λ k. height_all h b m c k s) e
-    ∙ ap (λ o. max (length s.types) (max (height_within o h m c s) (count_at (by_nesting o b m c i s) (height_all h b m c is)))) n
+    ∙ ap (λ o. max (length s.types) (max (height_within o h m c s) (count_at (after b m c i s) (height_all h b m c is)))) n
+    ∙ ap (λ o. max (length s.types) (max 0 (count_at o (height_all h b m c is)))) (flat_after b m c i s n)
     ∙ ap (λ o. max (length s.types) (max 0 (count_at o (height_all h b m c is)))) f
 
 pub work_step : (w : BlockId → ℕ) (i : Instr) (is code : List Instr) (n : Option Nesting)
@@ -89,7 +123,7 @@ work_step w i is code n e f = ap (code_work w) e ∙ ap (λ o. 1 + (nested_work 
 -- Flat instructions.
 
 pub flat_goes : (m : Module) (F : Frame) (top : Open) (os : List Outer) (own : Operands) (under : List (Option ValType)) (i : Instr) (own' : Operands) (n : ℕ)
-    → rest_of m top ≡ i ∷ rest_of m (next_open top) → nesting_of i ≡ None → after_flat m (context_in m F top os) i own ≡ Some own'
+    → rest_of m top ≡ i ∷ rest_of m (next_open top) → nesting_of i ≡ None → after_flat m (context_in m F top os) i (sort_of i) own ≡ Some own'
     → length own.types + length under ≤ n → IsPlace (record { top = top; own = own; outer = os; under = under })
     → Steps m F (record { top = top; own = own; outer = os; under = under }) n (record { top = next_open top; own = own'; outer = os; under = under }) n
 unfolding left_typed left_height left_work
@@ -123,13 +157,13 @@ stuck m F top os own under e =
     ap (λ o. (ends_with (types_in m top.results) o && other_is (λ id. is_block m (suc (depth_in os)) (context_in m F top os) id (type_in m top)) top.second) && outer_typed m F (types_in m top.results) os under) e
 
 pub flat_stuck : (m : Module) (F : Frame) (top : Open) (os : List Outer) (own : Operands) (under : List (Option ValType)) (i : Instr)
-    → rest_of m top ≡ i ∷ rest_of m (next_open top) → nesting_of i ≡ None → after_flat m (context_in m F top os) i own ≡ None
+    → rest_of m top ≡ i ∷ rest_of m (next_open top) → nesting_of i ≡ None → after_flat m (context_in m F top os) i (sort_of i) own ≡ None
     → left_typed m F (record { top = top; own = own; outer = os; under = under }) ≡ false
 flat_stuck m F top os own under i e f a = stuck m F top os own under (code_stuck (is_block m (depth_in os)) m (context_in m F top os) i (rest_of m (next_open top)) (rest_of m top) own e f a)
 
 -- both answers of a flat instruction
 pub flat_moves : (m : Module) (F : Frame) (top : Open) (os : List Outer) (own : Operands) (under under' : List (Option ValType)) (i : Instr) (fine : Bool) (own' : Operands) (n : ℕ)
-    → rest_of m top ≡ i ∷ rest_of m (next_open top) → nesting_of i ≡ None → Becomes (after_flat m (context_in m F top os) i own) fine own' → under' ≡ under
+    → rest_of m top ≡ i ∷ rest_of m (next_open top) → nesting_of i ≡ None → Becomes (after_flat m (context_in m F top os) i (sort_of i) own) fine own' → under' ≡ under
     → length own.types + length under ≤ n → IsPlace (record { top = top; own = own; outer = os; under = under })
     → Goes m F (record { top = top; own = own; outer = os; under = under }) n fine (record { top = next_open top; own = own'; outer = os; under = under' })
 flat_moves m F top os own under under' i true own' n e f a u h p =
@@ -164,7 +198,7 @@ pub after_opens : (b : Blocks) (m : Module) (c : Context) (i : Instr) (n : Nesti
     → nesting_of i ≡ Some n → block_type m n.ty ≡ Some g → tested n.other s ≡ Some r1 → take_all (reverse g.params) r1 ≡ Some r2
     → after b m c i s ≡ when (b (with_label (label_of n.again g) c) n.body g && other_is (λ id. b (with_label (label_of n.again g) c) id g) n.other) (Some (put (map Some (reverse g.results)) r2))
 after_opens b m c i n g s r1 r2 e f t k =
-    ap (λ o. by_nesting o b m c i s) e
+    nested_after b m c i n s e
     ∙ ap (λ o. then_ o (λ g. then_ (tested n.other s) (holding b c n g))) f
     ∙ ap (λ o. then_ o (holding b c n g)) t
     ∙ ap (λ o. when (b (with_label (label_of n.again g) c) n.body g && other_is (λ id. b (with_label (label_of n.again g) c) id g) n.other) (then_ o (λ rest. Some (put (map Some (reverse g.results)) rest)))) k
@@ -355,19 +389,19 @@ module _ (m : Module) (F : Frame) (top : Open) (os : List Outer) (own : Operands
   not_after e = stuck m F top os own under (code_none known m around at.0 (rest_of m (next_open top)) (rest_of m top) own at.1 e)
 
   pub no_type : block_type m nst.ty ≡ None → left_typed m F (record { top = top; own = own; outer = os; under = under }) ≡ false
-  no_type e = not_after (ap (λ o. by_nesting o known m around at.0 own) at.2 ∙ ap (λ o. then_ o (λ g. then_ (tested nst.other own) (holding known around nst g))) e)
+  no_type e = not_after (nested_after known m around at.0 nst own at.2 ∙ ap (λ o. then_ o (λ g. then_ (tested nst.other own) (holding known around nst g))) e)
 
   pub no_test : (g : FuncType) (b : Bool) (s : Operands) → block_type m nst.ty ≡ Some g → Becomes (tested nst.other own) b s → b ≡ false
       → left_typed m F (record { top = top; own = own; outer = os; under = under }) ≡ false
   no_test g b s e t f =
-      not_after (ap (λ o. by_nesting o known m around at.0 own) at.2 ∙ ap (λ o. then_ o (λ g. then_ (tested nst.other own) (holding known around nst g))) e
+      not_after (nested_after known m around at.0 nst own at.2 ∙ ap (λ o. then_ o (λ g. then_ (tested nst.other own) (holding known around nst g))) e
       ∙ ap (λ o. then_ o (holding known around nst g)) (fails (tested nst.other own) b s t f))
 
   pub no_params : (g : FuncType) (b b' : Bool) (s s' : Operands) → block_type m nst.ty ≡ Some g → Becomes (tested nst.other own) b s → b ≡ true
       → Becomes (take_all (reverse g.params) s) b' s' → b' ≡ false
       → left_typed m F (record { top = top; own = own; outer = os; under = under }) ≡ false
   no_params g b b' s s' e t f k w =
-      not_after (ap (λ o. by_nesting o known m around at.0 own) at.2 ∙ ap (λ o. then_ o (λ g. then_ (tested nst.other own) (holding known around nst g))) e
+      not_after (nested_after known m around at.0 nst own at.2 ∙ ap (λ o. then_ o (λ g. then_ (tested nst.other own) (holding known around nst g))) e
       ∙ ap (λ o. then_ o (holding known around nst g)) (passes (tested nst.other own) b s t f)
       ∙ ap (λ o. when (known (with_label (label_of nst.again g) around) nst.body g && other_is (λ id. known (with_label (label_of nst.again g) around) id g) nst.other) (then_ o (λ rest. Some (put (map Some (reverse g.results)) rest))))
       (fails (take_all (reverse g.params) s) b' s' k w)
@@ -608,7 +642,7 @@ pub start_reached : (m : Module) (F : Frame) (body : BlockId) (ty : ℕ) (q : Pl
 start_reached m F body ty q n e f =
     let P : Place → Type 0 = λ x. Reached m F (start_of body ty) x n in
     subst P (sym e) (record {
-      place = record { stacked = tt; nested = omega arith };
+      place = record { stacked = refl; nested = omega arith };
       typed = refl;
       height = λ _. ap (λ k. max k (left_height m F (start_of body ty))) (sym f);
     })

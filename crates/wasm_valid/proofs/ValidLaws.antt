@@ -1,5 +1,5 @@
 -- Laws of validation.
-use Rattle.std.proofs.Common.{◌≡◌, ℕ, suc, ◌+◌, ◌<◌, ◌≤◌, Bool, true, false, ◌&&◌, List, [], ◌∷◌, ◌++◌, Option, Some, None, length, take, drop, map, get_or, sym, ◌∙◌, ap, subst, arith, nat_le, if◌then◌else◌}
+use Rattle.std.proofs.Common.{◌≡◌, ℕ, zero, suc, option_map, refl, ◌+◌, ◌<◌, ◌≤◌, Bool, true, false, ◌&&◌, List, [], ◌∷◌, ◌++◌, Option, Some, None, length, take, drop, map, get_or, sym, ◌∙◌, ap, subst, arith, nat_le, if◌then◌else◌}
 use Rattle.std.specs.Prelude.{slice_get, is_some, IfSome, replicate, flat_map}
 use Rattle.std.specs.List.{list_all}
 use Rattle.std.proofs.lemmas.List.{drop_more, drop_all, map_more, take_all as take_whole}
@@ -10,28 +10,23 @@ use Rattle.wasm_syntax.specs.declared.module.Module.{Module}
 use Rattle.wasm_valid.specs.declared.types.Types.TheVariants as y
 use Rattle.wasm_valid.specs.Spaces.{when}
 use Rattle.wasm_valid.specs.Signatures.{types_in, results_in}
-use Rattle.wasm_valid.specs.Typing.{Context, is_block, block_height, most_nested, most_locals, locals_of, few_locals, typed_within, typed_as, height_as, body_context, body_type, count_locals, is_typed_body, body_height}
-use Rattle.wasm_valid.specs.ModuleRules.{is_numbered, obeys_rules, is_framed, is_typed_module, first_untyped, refused_function}
-use Rattle.wasm_valid.specs.Places.{BodyIs}
-
-abbrev of_results : List ValType → List ValType → Context
-of_results locals rs = record { locals = locals; labels = rs ∷ []; results = rs }
-
-abbrev from_none : List ValType → FuncType
-from_none rs = record { params = []; results = rs }
+use Rattle.wasm_valid.specs.Typing.{is_block, block_height, most_nested, most_locals, locals_of, few_locals, typed_within, typed_as, height_as, body_context, body_type, count_locals, is_typed_body, body_height}
+use Rattle.wasm_syntax.specs.Numbering.{is_numbered}
+use Rattle.wasm_valid.specs.ModuleRules.{obeys_rules, is_framed, is_typed_module, first_untyped, refused_function}
+use Rattle.wasm_valid.specs.Places.{BodyIs, results_context, from_nothing}
 
 -- the pass over a body speaks of the function's type
 pub body_is : (m : Module) (f : Func) (g : FuncType) (locals : List ValType) (height : Option ℕ) → slice_get m.types f.ty ≡ Some g → locals ≡ locals_of g f → few_locals g f ≡ true
-    → BodyIs (is_block m (suc most_nested) (of_results locals (types_in m (y.Results f.ty))) f.body (from_none (types_in m (y.Results f.ty))))
-    (block_height m (suc most_nested) (of_results locals (types_in m (y.Results f.ty))) f.body (from_none (types_in m (y.Results f.ty)))) height
+    → BodyIs (is_block m (suc most_nested) (results_context locals (types_in m (y.Results f.ty))) f.body (from_nothing (types_in m (y.Results f.ty))))
+    (block_height m (suc most_nested) (results_context locals (types_in m (y.Results f.ty))) f.body (from_nothing (types_in m (y.Results f.ty)))) height
     → BodyIs (is_typed_body m f) (body_height m f) height
 body_is m f g locals height e l few =
     let Q : Option FuncType → Type 0 = λ o.
-    BodyIs (is_block m (suc most_nested) (of_results locals (results_in o)) f.body (from_none (results_in o))) (block_height m (suc most_nested) (of_results locals (results_in o)) f.body (from_none (results_in o))) height
+    BodyIs (is_block m (suc most_nested) (results_context locals (results_in o)) f.body (from_nothing (results_in o))) (block_height m (suc most_nested) (results_context locals (results_in o)) f.body (from_nothing (results_in o))) height
     → BodyIs (typed_as o m f) (height_as o m f) height in
     subst Q (sym e) (λ h.
     let P : Bool → Type 0 = λ b. BodyIs (typed_within b m g f) (block_height m (suc most_nested) (body_context g f) f.body (body_type g)) height in
-    let L : List ValType → Type 0 = λ ls. BodyIs (is_block m (suc most_nested) (of_results ls g.results) f.body (from_none g.results)) (block_height m (suc most_nested) (of_results ls g.results) f.body (from_none g.results)) height in
+    let L : List ValType → Type 0 = λ ls. BodyIs (is_block m (suc most_nested) (results_context ls g.results) f.body (from_nothing g.results)) (block_height m (suc most_nested) (results_context ls g.results) f.body (from_nothing g.results)) height in
     subst P (sym few) (subst L l h))
 
 -- a function whose body isn't typed, after others whose bodies are
@@ -111,3 +106,17 @@ pub few_are : (g : FuncType) (f : Func) (params : List ValType) (runs : List (�
     → params ≡ g.params → runs ≡ f.locals → o ≡ Some ls → is_some o ≡ nat_le (length params + count_locals runs) most_locals → few_locals g f ≡ true
 few_are g f params runs o ls e r s h =
     sym (ap is_some (sym s) ∙ h ∙ ap (λ (xs : List ValType). nat_le (length xs + count_locals runs) most_locals) e ∙ ap (λ rs. nat_le (length g.params + count_locals rs) most_locals) r)
+
+-- each body of a typed module is typed
+both : (a b : Bool) → (a && b) ≡ true → (a ≡ true) × (b ≡ true)
+both true b e = (refl, e)
+both false b e = cc
+
+all_at : (p : Func → Bool) (fs : List Func) (x : ℕ) → list_all p fs ≡ true → x < length fs → option_map p (slice_get fs x) ≡ Some true
+all_at p [] x h l = absurd (omega (arith, l))
+all_at p (f ∷ fs) zero h l = ap Some (both (p f) (list_all p fs) h).0
+all_at p (f ∷ fs) (suc x) h l = all_at p fs x (both (p f) (list_all p fs) h).1 (omega (arith, l))
+
+pub body_typed : (m : Module) (x : ℕ) → is_typed_module m ≡ true → x < length m.funcs → option_map (is_typed_body m) (slice_get m.funcs x) ≡ Some true
+unfolding is_typed_module
+body_typed m x h l = all_at (is_typed_body m) m.funcs x (both (is_framed m) (list_all (is_typed_body m) m.funcs) h).1 l

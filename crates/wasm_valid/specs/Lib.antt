@@ -1,5 +1,4 @@
 pub mod Spaces
-pub mod Sorts
 pub mod Operands
 pub mod Piles
 pub mod Signatures

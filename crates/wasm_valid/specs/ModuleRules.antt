@@ -1,5 +1,5 @@
 -- Which modules are typed (WebAssembly Core 2.0, section 3.4). Each rule that stands outside the bodies has a name of its own.
-use Rattle.std.specs.Prelude.{ℕ, zero, suc, ◌^◌, Bool, true, false, not, ◌&&◌, ◌==◌, nat_le, nat_lt, List, [], ◌∷◌, ◌++◌, Option, Some, None, slice_get, length, map, flat_map, is_some, unwrap_or, if◌then◌else◌}
+use Rattle.std.specs.Prelude.{ℕ, suc, ◌^◌, Bool, true, false, not, ◌&&◌, ◌==◌, nat_le, nat_lt, List, [], ◌∷◌, Option, Some, None, slice_get, length, is_some, unwrap_or, if◌then◌else◌}
 use Rattle.std.specs.List.{list_any, list_all}
 use Rattle.std.specs.Str.{bytes_eq}
 use Rattle.wasm_syntax.specs.Blocks.{block_of}
@@ -25,42 +25,10 @@ use Rattle.wasm_syntax.specs.declared.module.Mode.TheVariants as w
 use Rattle.wasm_syntax.specs.declared.module.Elem.{Elem}
 use Rattle.wasm_syntax.specs.declared.module.Data.{Data}
 use Rattle.wasm_syntax.specs.declared.module.Module.{Module}
-use Rattle.wasm_valid.specs.Spaces.{when, then_, func_type, funcs_of, tables_of, mems_of, globals_of, imported_globals_of, same_type, is_reference}
-use Rattle.wasm_valid.specs.Sorts.{nesting_of, blocks_in}
+use Rattle.wasm_syntax.specs.ValueTypes.{same_type, is_reference, is_element}
+use Rattle.wasm_syntax.specs.Numbering.{is_numbered}
+use Rattle.wasm_valid.specs.Spaces.{when, then_, func_type, funcs_of, tables_of, mems_of, globals_of, imported_globals_of}
 use Rattle.wasm_valid.specs.Typing.{is_typed_body}
-
--- The numbering of the blocks.
-
--- the blocks that stand in an instruction, in order
-abbrev pub nested_in : Instr → List BlockId
-nested_in i = blocks_in (nesting_of i)
-
--- the numbers of a block and of those nested in it, at most d deep, in the order in which they end
-abbrev pub ends_in : Module → ℕ → BlockId → List ℕ
-ends_in m zero id = []
-ends_in m (suc d) id = flat_map (ends_in m d) (flat_map nested_in (block_of m id)) ++ id.0 ∷ []
-
-abbrev pub offset_of : Mode → List BlockId
-offset_of (w.Active x offset) = offset ∷ []
-offset_of w.Passive = []
-offset_of w.Declared = []
-
--- the blocks that stand in no other, in the order of the binary format's sections
-abbrev pub outermost : Module → List BlockId
-outermost m =
-    map (λ (g : GlobalDef). g.init) m.globals
-    ++ flat_map (λ (segment : Elem). offset_of segment.mode ++ segment.items) m.elems
-    ++ map (λ (f : Func). f.body) m.funcs
-    ++ flat_map (λ (segment : Data). offset_of segment.mode) m.datas
-
--- these are the numbers from k on, each once and in order, up to n
-abbrev pub counts_to : ℕ → ℕ → List ℕ → Bool
-counts_to n k [] = k == n
-counts_to n k (x ∷ xs) = (x == k) && counts_to n (suc k) xs
-
--- blocks are numbered in the order in which they end, and there are no others; so none stands deeper than their number
-abbrev pub is_numbered : Module → Bool
-is_numbered m = counts_to (length m.blocks) 0 (flat_map (ends_in m (suc (length m.blocks))) (outermost m))
 
 -- Types, imports, tables and memories.
 
@@ -77,7 +45,7 @@ is_limit limit = nat_le limit.min (unwrap_or limit.max limit.min)
 
 -- 3.2.4: a table holds references
 abbrev pub is_table : TableType → Bool
-is_table table = is_reference table.elem && is_limit table.limit
+is_table table = is_element table.elem && is_limit table.limit
 
 -- 3.2.5: a memory has at most 65,536 pages
 abbrev pub is_memory : Limit → Bool
@@ -157,7 +125,7 @@ is_elem_mode m t w.Passive = true
 is_elem_mode m t w.Declared = true
 
 abbrev pub is_elem : Module → Elem → Bool
-is_elem m segment = is_reference segment.ty && list_all (is_constant m segment.ty) segment.items && is_elem_mode m segment.ty segment.mode
+is_elem m segment = is_element segment.ty && list_all (is_constant m segment.ty) segment.items && is_elem_mode m segment.ty segment.mode
 
 -- 3.4.6: no data segment is declared
 abbrev pub is_data : Module → Mode → Bool

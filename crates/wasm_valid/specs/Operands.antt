@@ -1,7 +1,8 @@
 -- The types of the operands of a block (WebAssembly Core 2.0, section 3.3 and the appendix on its algorithm).
 use Rattle.std.specs.Prelude.{Bool, true, false, not, ◌&&◌, List, [], ◌∷◌, ◌++◌, Option, Some, None, map, reverse}
 use Rattle.wasm_syntax.specs.declared.types.ValType.{ValType}
-use Rattle.wasm_valid.specs.Spaces.{when, then_, same_type, is_reference}
+use Rattle.wasm_syntax.specs.ValueTypes.{same_type, is_reference}
+use Rattle.wasm_valid.specs.Spaces.{when, then_}
 
 -- The operands of a block at one of its places, the topmost first, and the mark: whether anything may stand below them.
 -- None in the list is an operand that fits every type, which a `select` leaves where both its operands fit every type.

@@ -1,4 +1,4 @@
--- Where the pass over a body stands, and what is left of the body from there on, for private contracts.
+-- Private: where the pass over a body stands, and what is left of the body from there on.
 use Rattle.std.specs.Prelude.{◌≡◌, ℕ, zero, suc, ◌+◌, ◌-◌, ◌<◌, ◌≤◌, max, Bool, true, false, ◌&&◌, List, [], ◌∷◌, Option, Some, None, reverse, length, map, take, drop}
 use Rattle.wasm_syntax.specs.Blocks.{block_of}
 use Rattle.wasm_syntax.specs.declared.types.ValType.{ValType}
@@ -6,7 +6,7 @@ use Rattle.wasm_syntax.specs.declared.types.FuncType.{FuncType}
 use Rattle.wasm_syntax.specs.declared.instructions.BlockId.{BlockId}
 use Rattle.wasm_syntax.specs.declared.instructions.Instr.{Instr}
 use Rattle.wasm_syntax.specs.declared.module.Module.{Module}
-use Rattle.wasm_valid.specs.declared.sorts.Nesting.{Nesting}
+use Rattle.wasm_syntax.specs.declared.sorts.Nesting.{Nesting}
 use Rattle.wasm_valid.specs.declared.opens.Open.{Open}
 use Rattle.wasm_valid.specs.declared.opens.Outer.{Outer}
 use Rattle.wasm_valid.specs.declared.opens.Opens.{Opens}
@@ -14,7 +14,7 @@ use Rattle.wasm_valid.specs.declared.types.Types.{Types}
 use Rattle.wasm_valid.specs.declared.types.Types.TheVariants as y
 use Rattle.wasm_valid.specs.declared.pass.Step.{Step}
 use Rattle.wasm_valid.specs.declared.pass.Step.TheVariants.{Went, Untyped, Ended}
-use Rattle.wasm_valid.specs.Sorts.{nesting_of}
+use Rattle.wasm_syntax.specs.Sorts.{nesting_of}
 use Rattle.wasm_valid.specs.Piles.{Pile}
 use Rattle.wasm_valid.specs.Operands.{Operands, exactly, put, ends_with}
 use Rattle.wasm_valid.specs.Signatures.{types_in}
@@ -31,6 +31,16 @@ pub record Frame : Type 0 where
 
 abbrev pub context_in : Module → Frame → Open → List Outer → Context
 context_in m F o os = record { locals = F.locals; labels = labels_in m o os; results = F.results }
+
+-- the labels and what is seen at a place of the pass, where these are the types of the body's results
+abbrev pub labels_at : Module → Opens → List (List ValType)
+labels_at m opens = labels_in m opens.top (reverse opens.outer.items)
+
+abbrev pub frame_at : Module → List ValType → Types → Frame
+frame_at m locals results = record { locals = locals; results = types_in m results }
+
+abbrev pub context_at : Module → List ValType → Types → Opens → Context
+context_at m locals results opens = context_in m (frame_at m locals results) opens.top (reverse opens.outer.items)
 
 abbrev pub type_in : Module → Open → FuncType
 type_in m o = record { params = types_in m o.params; results = types_in m o.results }
@@ -115,9 +125,9 @@ outer_work m (o ∷ os) = rest_work m o.open os + outer_work m os
 unfoldable pub left_work : Module → Place → ℕ
 left_work m p = rest_work m p.top p.outer + outer_work m p.outer
 
--- each block's operands begin where those of the next one round it end
+-- each block's operands begin where those of the next one round it end, and nothing stands below those of the body
 abbrev pub IsStacked : List Outer → ℕ → Type 0
-IsStacked [] n = Unit {0}
+IsStacked [] n = n ≡ 0
 IsStacked (o ∷ os) n = (o.saved.base ≤ n) × IsStacked os o.saved.base
 
 -- a place that can be reached
@@ -196,7 +206,24 @@ start_of body ty = record {
 }
 
 abbrev pub frame_of : Module → List ValType → ℕ → Frame
-frame_of m locals ty = record { locals = locals; results = types_in m (y.Results ty) }
+frame_of m locals ty = frame_at m locals (y.Results ty)
+
+-- whether a body is typed that has these locals and the results of the type with this index, and its height
+abbrev pub results_context : List ValType → List ValType → Context
+results_context locals results = record { locals = locals; labels = results ∷ []; results = results }
+
+abbrev pub from_nothing : List ValType → FuncType
+from_nothing results = record { params = []; results = results }
+
+abbrev pub body_typed : Module → List ValType → ℕ → BlockId → Bool
+body_typed m locals ty body =
+    let results = types_in m (y.Results ty) in
+    is_block m (suc most_nested) (results_context locals results) body (from_nothing results)
+
+abbrev pub body_tall : Module → List ValType → ℕ → BlockId → ℕ
+body_tall m locals ty body =
+    let results = types_in m (y.Results ty) in
+    block_height m (suc most_nested) (results_context locals results) body (from_nothing results)
 
 -- a place that the pass over a body comes to, with the greatest number of operands so far
 pub record Reached (m : Module) (F : Frame) (p : Place) (q : Place) (n : ℕ) : Type 0 where

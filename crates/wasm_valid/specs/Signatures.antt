@@ -1,4 +1,4 @@
--- The types of instructions as the code keeps them, for private contracts.
+-- Private: the types of instructions as the code keeps them.
 use Rattle.std.specs.Prelude.{List, [], ◌∷◌, Option, Some, None, slice_get, option_to_list}
 use Rattle.wasm_syntax.specs.declared.types.ValType.{ValType}
 use Rattle.wasm_syntax.specs.declared.types.FuncType.{FuncType}

@@ -1,15 +1,11 @@
 -- The index spaces of a module (WebAssembly Core 2.0, sections 2.5.1 and 3.1.1): imports come first, each kind in its own order.
-use Rattle.std.specs.Prelude.{ℕ, Bool, true, false, ◌==◌, nat_lt, ◌||◌, List, [], ◌∷◌, ◌++◌, Option, Some, None, slice_get, length, map, filter_map}
+use Rattle.std.specs.Prelude.{ℕ, Bool, true, false, ◌==◌, nat_lt, ◌||◌, List, ◌++◌, Option, Some, None, slice_get, length, map, filter_map}
 use Rattle.std.specs.List.{list_any}
 use Rattle.wasm_syntax.specs.Blocks.{block_of}
-use Rattle.wasm_syntax.specs.declared.types.ValType.{ValType}
-use Rattle.wasm_syntax.specs.declared.types.ValType.TheVariants as v
 use Rattle.wasm_syntax.specs.declared.types.FuncType.{FuncType}
 use Rattle.wasm_syntax.specs.declared.types.Limit.{Limit}
 use Rattle.wasm_syntax.specs.declared.types.TableType.{TableType}
 use Rattle.wasm_syntax.specs.declared.types.GlobalType.{GlobalType}
-use Rattle.wasm_syntax.specs.declared.instructions.BlockType.{BlockType}
-use Rattle.wasm_syntax.specs.declared.instructions.BlockType.TheVariants as b
 use Rattle.wasm_syntax.specs.declared.instructions.Instr.{Instr}
 use Rattle.wasm_syntax.specs.declared.instructions.Instr.TheVariants as i
 use Rattle.wasm_syntax.specs.declared.module.ImportDesc.{ImportDesc}
@@ -77,27 +73,8 @@ globals_of m = imported_globals_of m ++ map (λ (g : GlobalDef). g.ty) m.globals
 abbrev pub func_type : Module → ℕ → Option FuncType
 func_type m x = then_ (slice_get (funcs_of m) x) (slice_get m.types)
 
--- a block's type as that of a function (3.2.2)
-abbrev pub block_type : Module → BlockType → Option FuncType
-block_type m b.Empty = Some (record { params = []; results = [] })
-block_type m (b.One t) = Some (record { params = []; results = t ∷ [] })
-block_type m (b.Index x) = slice_get m.types x
-
 abbrev pub has_memory : Module → Bool
 has_memory m = nat_lt 0 (length (mems_of m))
-
-abbrev pub same_type : ValType → ValType → Bool
-same_type v.I32 v.I32 = true
-same_type v.I64 v.I64 = true
-same_type v.FuncRef v.FuncRef = true
-same_type v.ExternRef v.ExternRef = true
-same_type _ _ = false
-
-abbrev pub is_reference : ValType → Bool
-is_reference v.I32 = false
-is_reference v.I64 = false
-is_reference v.FuncRef = true
-is_reference v.ExternRef = true
 
 -- whether an instruction refers to this function by a ref.func
 abbrev pub refers_to : ℕ → Instr → Bool

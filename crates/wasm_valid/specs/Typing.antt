@@ -8,15 +8,18 @@ use Rattle.wasm_syntax.specs.declared.types.TableType.{TableType}
 use Rattle.wasm_syntax.specs.declared.types.GlobalType.{GlobalType}
 use Rattle.wasm_syntax.specs.declared.instructions.BlockId.{BlockId}
 use Rattle.wasm_syntax.specs.declared.instructions.Instr.{Instr}
-use Rattle.wasm_syntax.specs.declared.instructions.Instr.TheVariants as i
 use Rattle.wasm_syntax.specs.declared.module.Func.{Func}
 use Rattle.wasm_syntax.specs.declared.module.Elem.{Elem}
 use Rattle.wasm_syntax.specs.declared.module.Module.{Module}
-use Rattle.wasm_valid.specs.declared.sorts.Sort.{Sort}
-use Rattle.wasm_valid.specs.declared.sorts.Sort.TheVariants as s
-use Rattle.wasm_valid.specs.declared.sorts.Nesting.{Nesting}
-use Rattle.wasm_valid.specs.Spaces.{when, then_, func_type, tables_of, globals_of, block_type, has_memory, same_type, is_reference, is_declared}
-use Rattle.wasm_valid.specs.Sorts.{sort_of, nesting_of}
+use Rattle.wasm_syntax.specs.declared.sorts.Simple.{Simple}
+use Rattle.wasm_syntax.specs.declared.sorts.Simple.TheVariants as simple
+use Rattle.wasm_syntax.specs.declared.sorts.Sort.{Sort}
+use Rattle.wasm_syntax.specs.declared.sorts.Sort.TheVariants as sort
+use Rattle.wasm_syntax.specs.declared.sorts.Nesting.{Nesting}
+use Rattle.wasm_syntax.specs.Sorts.{sort_of, nesting_of, labels_of, types_of}
+use Rattle.wasm_syntax.specs.NumberTypes.{value_type, type_of_number, source_of, target_of, natural_alignment}
+use Rattle.wasm_syntax.specs.ValueTypes.{same_type, is_reference, block_type}
+use Rattle.wasm_valid.specs.Spaces.{when, then_, func_type, tables_of, globals_of, has_memory, is_declared}
 use Rattle.wasm_valid.specs.Operands.{Operands, anything, exactly, take_any, take_one, take_all, put, exchange, leaves, select_of, ends_with}
 
 -- what a place of a body sees beside its module: the locals, the labels with their types, the innermost first, and the results
@@ -33,42 +36,42 @@ pub record Signature : Type 0 where
 abbrev pub goes : List ValType → List ValType → Option Signature
 goes ts us = Some (record { takes = ts; gives = us })
 
--- 3.3.1 to 3.3.7: the type of an instruction that has one, under these locals. Alignment is at most the width
-abbrev pub signature : Module → List ValType → Sort → Option Signature
-signature m locals s.Nop = goes [] []
-signature m locals (s.Const t) = goes [] (t ∷ [])
-signature m locals (s.Unary t) = goes (t ∷ []) (t ∷ [])
-signature m locals (s.Binary t) = goes (t ∷ t ∷ []) (t ∷ [])
-signature m locals (s.Test t) = goes (t ∷ []) (v.I32 ∷ [])
-signature m locals (s.Compare t) = goes (t ∷ t ∷ []) (v.I32 ∷ [])
-signature m locals (s.Convert from to) = goes (from ∷ []) (to ∷ [])
-signature m locals (s.Load t width align) = when (has_memory m && nat_le align width) (goes (v.I32 ∷ []) (t ∷ []))
-signature m locals (s.Store t width align) = when (has_memory m && nat_le align width) (goes (t ∷ v.I32 ∷ []) [])
-signature m locals s.MemorySize = when (has_memory m) (goes [] (v.I32 ∷ []))
-signature m locals s.MemoryGrow = when (has_memory m) (goes (v.I32 ∷ []) (v.I32 ∷ []))
-signature m locals (s.MemoryInit x) = when (has_memory m && nat_lt x (length m.datas)) (goes (v.I32 ∷ v.I32 ∷ v.I32 ∷ []) [])
-signature m locals (s.DataDrop x) = when (nat_lt x (length m.datas)) (goes [] [])
-signature m locals s.MemoryCopy = when (has_memory m) (goes (v.I32 ∷ v.I32 ∷ v.I32 ∷ []) [])
-signature m locals s.MemoryFill = when (has_memory m) (goes (v.I32 ∷ v.I32 ∷ v.I32 ∷ []) [])
-signature m locals (s.LocalGet x) = then_ (slice_get locals x) (λ t. goes [] (t ∷ []))
-signature m locals (s.LocalSet x) = then_ (slice_get locals x) (λ t. goes (t ∷ []) [])
-signature m locals (s.LocalTee x) = then_ (slice_get locals x) (λ t. goes (t ∷ []) (t ∷ []))
-signature m locals (s.GlobalGet x) = then_ (slice_get (globals_of m) x) (λ (g : GlobalType). goes [] (g.val ∷ []))
-signature m locals (s.GlobalSet x) = then_ (slice_get (globals_of m) x) (λ (g : GlobalType). when g.mutable (goes (g.val ∷ []) []))
-signature m locals (s.TableGet x) = then_ (slice_get (tables_of m) x) (λ (table : TableType). goes (v.I32 ∷ []) (table.elem ∷ []))
-signature m locals (s.TableSet x) = then_ (slice_get (tables_of m) x) (λ (table : TableType). goes (table.elem ∷ v.I32 ∷ []) [])
-signature m locals (s.TableInit x y) =
+-- 3.3.1 to 3.3.7: the type of a simple instruction under these locals. Alignment is at most that of the width
+abbrev pub signature : Module → List ValType → Simple → Option Signature
+signature m locals simple.Nop = goes [] []
+signature m locals (simple.Const n) = goes [] (value_type (type_of_number n) ∷ [])
+signature m locals (simple.Unary t op) = goes (value_type t ∷ []) (value_type t ∷ [])
+signature m locals (simple.Binary t op) = goes (value_type t ∷ value_type t ∷ []) (value_type t ∷ [])
+signature m locals (simple.Test t) = goes (value_type t ∷ []) (v.I32 ∷ [])
+signature m locals (simple.Compare t op) = goes (value_type t ∷ value_type t ∷ []) (v.I32 ∷ [])
+signature m locals (simple.Convert op) = goes (value_type (source_of op) ∷ []) (value_type (target_of op) ∷ [])
+signature m locals (simple.Load t width extension at) = when (has_memory m && nat_le at.align (natural_alignment width)) (goes (v.I32 ∷ []) (value_type t ∷ []))
+signature m locals (simple.Store t width at) = when (has_memory m && nat_le at.align (natural_alignment width)) (goes (value_type t ∷ v.I32 ∷ []) [])
+signature m locals simple.MemorySize = when (has_memory m) (goes [] (v.I32 ∷ []))
+signature m locals simple.MemoryGrow = when (has_memory m) (goes (v.I32 ∷ []) (v.I32 ∷ []))
+signature m locals (simple.MemoryInit x) = when (has_memory m && nat_lt x (length m.datas)) (goes (v.I32 ∷ v.I32 ∷ v.I32 ∷ []) [])
+signature m locals (simple.DataDrop x) = when (nat_lt x (length m.datas)) (goes [] [])
+signature m locals simple.MemoryCopy = when (has_memory m) (goes (v.I32 ∷ v.I32 ∷ v.I32 ∷ []) [])
+signature m locals simple.MemoryFill = when (has_memory m) (goes (v.I32 ∷ v.I32 ∷ v.I32 ∷ []) [])
+signature m locals (simple.LocalGet x) = then_ (slice_get locals x) (λ t. goes [] (t ∷ []))
+signature m locals (simple.LocalSet x) = then_ (slice_get locals x) (λ t. goes (t ∷ []) [])
+signature m locals (simple.LocalTee x) = then_ (slice_get locals x) (λ t. goes (t ∷ []) (t ∷ []))
+signature m locals (simple.GlobalGet x) = then_ (slice_get (globals_of m) x) (λ (g : GlobalType). goes [] (g.val ∷ []))
+signature m locals (simple.GlobalSet x) = then_ (slice_get (globals_of m) x) (λ (g : GlobalType). when g.mutable (goes (g.val ∷ []) []))
+signature m locals (simple.TableGet x) = then_ (slice_get (tables_of m) x) (λ (table : TableType). goes (v.I32 ∷ []) (table.elem ∷ []))
+signature m locals (simple.TableSet x) = then_ (slice_get (tables_of m) x) (λ (table : TableType). goes (table.elem ∷ v.I32 ∷ []) [])
+signature m locals (simple.TableInit x y) =
     then_ (slice_get m.elems x) (λ (segment : Elem). then_ (slice_get (tables_of m) y) (λ (table : TableType).
     when (same_type segment.ty table.elem) (goes (v.I32 ∷ v.I32 ∷ v.I32 ∷ []) [])))
-signature m locals (s.ElemDrop x) = when (nat_lt x (length m.elems)) (goes [] [])
-signature m locals (s.TableCopy to from) =
+signature m locals (simple.ElemDrop x) = when (nat_lt x (length m.elems)) (goes [] [])
+signature m locals (simple.TableCopy to from) =
     then_ (slice_get (tables_of m) to) (λ (target : TableType). then_ (slice_get (tables_of m) from) (λ (source : TableType).
     when (same_type target.elem source.elem) (goes (v.I32 ∷ v.I32 ∷ v.I32 ∷ []) [])))
-signature m locals (s.TableGrow x) = then_ (slice_get (tables_of m) x) (λ (table : TableType). goes (v.I32 ∷ table.elem ∷ []) (v.I32 ∷ []))
-signature m locals (s.TableSize x) = then_ (slice_get (tables_of m) x) (λ (table : TableType). goes [] (v.I32 ∷ []))
-signature m locals (s.TableFill x) = then_ (slice_get (tables_of m) x) (λ (table : TableType). goes (v.I32 ∷ table.elem ∷ v.I32 ∷ []) [])
-signature m locals (s.RefNull t) = when (is_reference t) (goes [] (t ∷ []))
-signature m locals (s.RefFunc x) = when (is_some (func_type m x) && is_declared m x) (goes [] (v.FuncRef ∷ []))
+signature m locals (simple.TableGrow x) = then_ (slice_get (tables_of m) x) (λ (table : TableType). goes (v.I32 ∷ table.elem ∷ []) (v.I32 ∷ []))
+signature m locals (simple.TableSize x) = then_ (slice_get (tables_of m) x) (λ (table : TableType). goes [] (v.I32 ∷ []))
+signature m locals (simple.TableFill x) = then_ (slice_get (tables_of m) x) (λ (table : TableType). goes (v.I32 ∷ table.elem ∷ v.I32 ∷ []) [])
+signature m locals (simple.RefNull t) = when (is_reference t) (goes [] (t ∷ []))
+signature m locals (simple.RefFunc x) = when (is_some (func_type m x) && is_declared m x) (goes [] (v.FuncRef ∷ []))
 
 -- whether a block goes, under a context, from operands of the parameters' types to operands of the results' types and no more
 abbrev pub Blocks : Type 0
@@ -109,34 +112,50 @@ abbrev pub holds_functions : Option TableType → Bool
 holds_functions None = false
 holds_functions (Some table) = same_type table.elem v.FuncRef
 
--- the operands after an instruction without a sort that holds no blocks: 3.3.8 control, 3.3.2 is_null, 3.3.4 drop and select
-abbrev pub after_other : Module → Context → Instr → Operands → Option Operands
-after_other m c i.Unreachable s = Some anything
-after_other m c (i.Br l) s = then_ (slice_get c.labels l) (λ ts. leaves (reverse ts) s)
-after_other m c (i.BrIf l) s = then_ (slice_get c.labels l) (λ ts. then_ (take_one v.I32 s) (exchange (reverse ts) (reverse ts)))
-after_other m c (i.BrTable ls l) s = then_ (slice_get c.labels l) (λ ts. then_ (take_one v.I32 s) (after_table c.labels ls ts))
-after_other m c i.Return s = leaves (reverse c.results) s
-after_other m c (i.Call x) s = then_ (func_type m x) (λ g. calls g s)
-after_other m c (i.CallIndirect x y) s =
-    when (holds_functions (slice_get (tables_of m) y)) (then_ (slice_get m.types x) (λ g. then_ (take_one v.I32 s) (calls g)))
-after_other m c i.Drop s = then_ (take_any s) (λ taken. Some taken.rest)
-after_other m c i.Select s =
+-- 3.3.8: a branch, which goes elsewhere, and one that may go on
+abbrev pub branches : Option (List ValType) → Operands → Option Operands
+branches label s = then_ label (λ ts. leaves (reverse ts) s)
+
+abbrev pub branches_if : Option (List ValType) → Operands → Option Operands
+branches_if label s = then_ label (λ ts. then_ (take_one v.I32 s) (exchange (reverse ts) (reverse ts)))
+
+abbrev pub branches_table : List (List ValType) → List ℕ → ℕ → Operands → Option Operands
+branches_table labels ls l s = then_ (slice_get labels l) (λ ts. then_ (take_one v.I32 s) (after_table labels ls ts))
+
+-- 3.3.8: an indirect call, of a type and through a table that are there
+abbrev pub calls_indirect : Option TableType → Option FuncType → Operands → Option Operands
+calls_indirect table type s = when (holds_functions table) (then_ type (λ g. then_ (take_one v.I32 s) (calls g)))
+
+-- 3.3.4: drop, and select without types
+abbrev pub drops : Operands → Option Operands
+drops s = then_ (take_any s) (λ taken. Some taken.rest)
+
+abbrev pub selects : Operands → Option Operands
+selects s =
     then_ (take_one v.I32 s) (λ rest. then_ (take_any rest) (λ second. then_ (take_any second.rest) (λ first.
     then_ (select_of first.type second.type) (λ u. Some (put (u ∷ []) first.rest)))))
-after_other m c (i.SelectTyped ts) s = after_select ts s
-after_other m c i.RefIsNull s = then_ (take_any s) (λ taken. when (fits_reference taken.type) (Some (put (Some v.I32 ∷ []) taken.rest)))
-after_other m c _ s = None
 
-abbrev pub after_sort : Module → Context → Sort → Operands → Option Operands
-after_sort m c sort s = then_ (signature m c.locals sort) (λ g. exchange g.takes g.gives s)
+abbrev pub tests_reference : Operands → Option Operands
+tests_reference s = then_ (take_any s) (λ taken. when (fits_reference taken.type) (Some (put (Some v.I32 ∷ []) taken.rest)))
 
-abbrev pub by_sort : Option Sort → Module → Context → Instr → Operands → Option Operands
-by_sort (Some sort) m c i s = after_sort m c sort s
-by_sort None m c i s = after_other m c i s
+abbrev pub after_simple : Module → Context → Simple → Operands → Option Operands
+after_simple m c p s = then_ (signature m c.locals p) (λ g. exchange g.takes g.gives s)
 
--- the operands after an instruction that holds no blocks
-abbrev pub after_flat : Module → Context → Instr → Operands → Option Operands
-after_flat m c i s = by_sort (sort_of i) m c i s
+-- the operands after an instruction of this sort that holds no blocks: 3.3.8 control, 3.3.2 is_null, 3.3.4 drop and select
+abbrev pub after_flat : Module → Context → Instr → Sort → Operands → Option Operands
+after_flat m c i (sort.Simple p) s = after_simple m c p s
+after_flat m c i (sort.Nested n) s = None
+after_flat m c i sort.Unreachable s = Some anything
+after_flat m c i (sort.Br l) s = branches (slice_get c.labels l) s
+after_flat m c i (sort.BrIf l) s = branches_if (slice_get c.labels l) s
+after_flat m c i (sort.BrTable l) s = branches_table c.labels (labels_of i) l s
+after_flat m c i sort.Return s = leaves (reverse c.results) s
+after_flat m c i (sort.Call x) s = then_ (func_type m x) (λ g. calls g s)
+after_flat m c i (sort.CallIndirect x y) s = calls_indirect (slice_get (tables_of m) y) (slice_get m.types x) s
+after_flat m c i sort.Drop s = drops s
+after_flat m c i sort.Select s = selects s
+after_flat m c i sort.SelectTyped s = after_select (types_of i) s
+after_flat m c i sort.RefIsNull s = tests_reference s
 
 -- a branch to a loop goes to its start, and to another block behind its end
 abbrev pub label_of : Bool → FuncType → List ValType
@@ -161,13 +180,14 @@ holding b c n g s =
 abbrev pub after_nested : Blocks → Module → Context → Nesting → Operands → Option Operands
 after_nested b m c n s = then_ (block_type m n.ty) (λ g. then_ (tested n.other s) (holding b c n g))
 
-abbrev pub by_nesting : Option Nesting → Blocks → Module → Context → Instr → Operands → Option Operands
-by_nesting (Some n) b m c i s = after_nested b m c n s
-by_nesting None b m c i s = after_flat m c i s
+-- the operands after an instruction of this sort
+abbrev pub after_sort : Blocks → Module → Context → Instr → Sort → Operands → Option Operands
+after_sort b m c i (sort.Nested n) s = after_nested b m c n s
+after_sort b m c i k s = after_flat m c i k s
 
 -- the operands after an instruction
 abbrev pub after : Blocks → Module → Context → Instr → Operands → Option Operands
-after b m c i s = by_nesting (nesting_of i) b m c i s
+after b m c i s = after_sort b m c i (sort_of i) s
 
 -- the operands after a list of instructions
 abbrev pub after_all : Blocks → Module → Context → List Instr → Operands → Option Operands

@@ -1,4 +1,4 @@
--- What the code keeps of a module, for private contracts.
+-- Private: what the code keeps of a module.
 use Rattle.std.specs.Prelude.{◌≡◌, ℕ, ◌+◌, ◌<◌, Bool, true, false, ◌||◌, List, [], ◌∷◌, length, slice_index_or}
 use Rattle.wasm_syntax.specs.declared.types.ValType.{ValType}
 use Rattle.wasm_syntax.specs.declared.module.Module.{Module}

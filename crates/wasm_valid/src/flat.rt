@@ -6,22 +6,21 @@ ghost use Rattle.wasm_valid.specs.Spaces.{then_, when, func_type, tables_of};
 ghost use Rattle.wasm_valid.specs.Operands.{take_one, take_any, take_all, exchange, leaves, put, select_of, is_number, common};
 ghost use Rattle.wasm_valid.specs.Piles.{Becomes};
 ghost use Rattle.wasm_valid.specs.Signatures.{types_in};
-ghost use Rattle.wasm_valid.specs.Typing.{all_fit, after_table, after_select, after_other, after_flat, calls, fits_reference, holds_functions};
-ghost use Rattle.wasm_valid.specs.Places.{labels_in, context_in};
+ghost use Rattle.wasm_valid.specs.Typing.{branches, branches_if, branches_table, all_fit, after_select, after_flat, calls, calls_indirect, drops, selects, tests_reference, fits_reference, holds_functions};
+ghost use Rattle.wasm_valid.specs.Places.{labels_at, context_at};
 ghost use Rattle.wasm_valid.specs.Views.{IsSpaces};
 
 use crate::locals::Locals;
 use crate::opens::{MOST_LABELS, Opens};
 use crate::operands::{OperandList, type_fits};
-use crate::signature::{sort_signature, table_type};
-use crate::sorts::instr_sort;
+use crate::signature::{simple_signature, table_type};
 use crate::spaces::{Spaces, set_flag};
-use crate::types::{Types, is_reference_type, same_types, types_of};
+use crate::types::{Types, types_of};
 use std::alloc::AllocError;
-use wasm_syntax::{FuncType, Instr, Module, TableType, ValType};
+use wasm_syntax::{FuncType, Instr, Module, Sort, TableType, ValType};
 
 fn branch(operands: &mut OperandList, label: Option<&[ValType]>) -> bool
-    ensures own { Becomes (then_ (option_copied label.entry) (λ types. leaves (reverse types) operands.old.own)) result operands.new.own }
+    ensures own { Becomes (branches (option_copied label.entry) operands.old.own) result operands.new.own }
     ensures under { operands.new.under ≡ operands.old.under }
 {
     match label {
@@ -31,7 +30,7 @@ fn branch(operands: &mut OperandList, label: Option<&[ValType]>) -> bool
 }
 
 fn branch_if(operands: &mut OperandList, label: Option<&[ValType]>) -> Result<bool, AllocError>
-    ensures own { IfOk result (λ fine. Becomes (then_ (option_copied label.entry) (λ types. then_ (take_one ValType.I32 operands.old.own) (exchange (reverse types) (reverse types)))) fine operands.new.own) }
+    ensures own { IfOk result (λ fine. Becomes (branches_if (option_copied label.entry) operands.old.own) fine operands.new.own) }
     ensures under { operands.new.under ≡ operands.old.under }
 {
     match label {
@@ -77,7 +76,7 @@ fn fits_labels(
     count: usize,
     labels: &[u32],
 ) -> bool
-    ensures { result ≡ all_fit (labels_in «module».now opens.now.top (reverse opens.now.outer.items)) count labels.now operands.now.own }
+    ensures { result ≡ all_fit (labels_at «module».now opens.now) count labels.now operands.now.own }
 {
     let mut seen = none_seen();
     for index in labels {
@@ -98,7 +97,7 @@ fn branch_table(
     labels: &[u32],
     default: u32,
 ) -> bool
-    ensures own { Becomes (then_ (slice_get (labels_in «module».now opens.now.top (reverse opens.now.outer.items)) default) (λ types. then_ (take_one ValType.I32 operands.old.own) (after_table (labels_in «module».now opens.now.top (reverse opens.now.outer.items)) labels.now types))) result operands.new.own }
+    ensures own { Becomes (branches_table (labels_at «module».now opens.now) labels.now default operands.old.own) result operands.new.own }
     ensures under { operands.new.under ≡ operands.old.under }
 {
     match opens.label(module, default) {
@@ -136,7 +135,7 @@ fn is_of_functions(table: Option<TableType>) -> bool
     ensures { result ≡ holds_functions table }
 {
     match table {
-        Some(table) => same_types(table.elem, ValType::FuncRef),
+        Some(table) => table.elem.is_same(ValType::FuncRef),
         None => false,
     }
 }
@@ -146,7 +145,7 @@ fn call_indirect(
     table: Option<TableType>,
     ty: Option<&FuncType>,
 ) -> Result<bool, AllocError>
-    ensures own { IfOk result (λ fine. Becomes (when (holds_functions table) (then_ (option_copied ty.entry) (λ g. then_ (take_one ValType.I32 operands.old.own) (calls g)))) fine operands.new.own) }
+    ensures own { IfOk result (λ fine. Becomes (calls_indirect table (option_copied ty.entry) operands.old.own) fine operands.new.own) }
     ensures under { operands.new.under ≡ operands.old.under }
 {
     if !is_of_functions(table) {
@@ -164,7 +163,7 @@ fn call_indirect(
 }
 
 fn drop_one(operands: &mut OperandList) -> bool
-    ensures own { Becomes (then_ (take_any operands.old.own) (λ taken. Some taken.rest)) result operands.new.own }
+    ensures own { Becomes (drops operands.old.own) result operands.new.own }
     ensures under { operands.new.under ≡ operands.old.under }
 {
     operands.pop().is_some()
@@ -174,7 +173,7 @@ fn is_number_operand(operand: Option<ValType>) -> bool
     ensures { result ≡ is_number operand }
 {
     match operand {
-        Some(ty) => !is_reference_type(ty),
+        Some(ty) => !ty.is_reference(),
         None => true,
     }
 }
@@ -199,7 +198,7 @@ fn selected(first: Option<ValType>, second: Option<ValType>) -> Option<Option<Va
 }
 
 fn select(operands: &mut OperandList) -> Result<bool, AllocError>
-    ensures own { IfOk result (λ fine. Becomes (then_ (take_one ValType.I32 operands.old.own) (λ rest. then_ (take_any rest) (λ second. then_ (take_any second.rest) (λ first. then_ (select_of first.type second.type) (λ u. Some (put (u ∷ []) first.rest)))))) fine operands.new.own) }
+    ensures own { IfOk result (λ fine. Becomes (selects operands.old.own) fine operands.new.own) }
     ensures under { operands.new.under ≡ operands.old.under }
 {
     if !operands.pop_type(ValType::I32) {
@@ -238,7 +237,7 @@ fn select_typed(operands: &mut OperandList, types: &[ValType]) -> Result<bool, A
 }
 
 fn test_reference(operands: &mut OperandList) -> Result<bool, AllocError>
-    ensures own { IfOk result (λ fine. Becomes (then_ (take_any operands.old.own) (λ taken. when (fits_reference taken.type) (Some (put (Some ValType.I32 ∷ []) taken.rest)))) fine operands.new.own) }
+    ensures own { IfOk result (λ fine. Becomes (tests_reference operands.old.own) fine operands.new.own) }
     ensures under { operands.new.under ≡ operands.old.under }
 {
     let Some(operand) = operands.pop() else {
@@ -255,55 +254,12 @@ fn is_reference_operand(operand: Option<ValType>) -> bool
     ensures { result ≡ fits_reference operand }
 {
     match operand {
-        Some(ty) => is_reference_type(ty),
+        Some(ty) => ty.is_reference(),
         None => true,
     }
 }
 
-/// Passes an instruction that has no sort and holds no blocks.
-fn pass_other(
-    operands: &mut OperandList,
-    opens: &Opens,
-    module: &Module,
-    spaces: &Spaces,
-    locals: &Locals,
-    results: Types,
-    instr: &Instr,
-) -> Result<bool, AllocError>
-    requires { IsSpaces «module».now spaces.now }
-    ensures own { IfOk result (λ fine. Becomes (after_other «module».now (context_in «module».now (record { locals = locals.now; results = types_in «module».now results }) opens.now.top (reverse opens.now.outer.items)) instr.now operands.old.own) fine operands.new.own) }
-    ensures under { operands.new.under ≡ operands.old.under }
-{
-    match instr {
-        Instr::Unreachable => {
-            operands.abandon();
-            Ok(true)
-        }
-        Instr::Br(index) => Ok(branch(operands, opens.label(module, *index))),
-        Instr::BrIf(index) => branch_if(operands, opens.label(module, *index)),
-        Instr::BrTable { labels, default } => Ok(branch_table(
-            operands,
-            opens,
-            module,
-            labels.as_slice(),
-            *default,
-        )),
-        Instr::Return => Ok(operands.leave(types_of(module, results))),
-        Instr::Call(index) => call(operands, type_of_func(module, spaces, *index)),
-        Instr::CallIndirect { ty, table } => call_indirect(
-            operands,
-            table_type(module, spaces, *table),
-            module.types.get(*ty as usize),
-        ),
-        Instr::Drop => Ok(drop_one(operands)),
-        Instr::Select => select(operands),
-        Instr::SelectTyped(types) => select_typed(operands, types.as_slice()),
-        Instr::RefIsNull => test_reference(operands),
-        _ => Ok(false),
-    }
-}
-
-/// Passes an instruction that holds no blocks: changes the operands as its type says, or tells that it isn't typed.
+/// Passes an instruction of this sort, which holds no blocks: changes the operands as its type says, or tells that it isn't typed.
 pub fn pass_flat(
     operands: &mut OperandList,
     opens: &Opens,
@@ -312,16 +268,41 @@ pub fn pass_flat(
     locals: &Locals,
     results: Types,
     instr: &Instr,
+    sort: Sort,
 ) -> Result<bool, AllocError>
     requires { IsSpaces «module».now spaces.now }
-    ensures own { IfOk result (λ fine. Becomes (after_flat «module».now (context_in «module».now (record { locals = locals.now; results = types_in «module».now results }) opens.now.top (reverse opens.now.outer.items)) instr.now operands.old.own) fine operands.new.own) }
+    ensures own { IfOk result (λ fine. Becomes (after_flat «module».now (context_at «module».now locals.now results opens.now) instr.now sort operands.old.own) fine operands.new.own) }
     ensures under { operands.new.under ≡ operands.old.under }
 {
-    match instr_sort(instr) {
-        Some(sort) => match sort_signature(module, spaces, locals, sort) {
+    match sort {
+        Sort::Simple(simple) => match simple_signature(module, spaces, locals, simple) {
             Some(signature) => operands.apply(signature),
             None => Ok(false),
         },
-        None => pass_other(operands, opens, module, spaces, locals, results, instr),
+        Sort::Nested(_) => Ok(false),
+        Sort::Unreachable => {
+            operands.abandon();
+            Ok(true)
+        }
+        Sort::Br(index) => Ok(branch(operands, opens.label(module, index))),
+        Sort::BrIf(index) => branch_if(operands, opens.label(module, index)),
+        Sort::BrTable(default) => Ok(branch_table(
+            operands,
+            opens,
+            module,
+            instr.labels(),
+            default,
+        )),
+        Sort::Return => Ok(operands.leave(types_of(module, results))),
+        Sort::Call(index) => call(operands, type_of_func(module, spaces, index)),
+        Sort::CallIndirect { ty, table } => call_indirect(
+            operands,
+            table_type(module, spaces, table),
+            module.types.get(ty as usize),
+        ),
+        Sort::Drop => Ok(drop_one(operands)),
+        Sort::Select => select(operands),
+        Sort::SelectTyped => select_typed(operands, instr.types()),
+        Sort::RefIsNull => test_reference(operands),
     }
 }

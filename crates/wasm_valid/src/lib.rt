@@ -10,12 +10,8 @@ mod operands;
 mod pass;
 mod rules;
 mod signature;
-mod sorts;
 mod spaces;
 mod types;
 mod valid;
 
 pub use valid::{Invalid, ValidModule, validate};
-
-#[cfg(test)]
-mod tests;

@@ -1,9 +1,8 @@
 //! The numbering of the blocks.
 
 ghost use Rattle.std.specs.Prelude.{◌≡◌, ◌++◌, map, flat_map, IfOk, OnOk};
-ghost use Rattle.wasm_valid.specs.ModuleRules.{nested_in, outermost, offset_of, is_numbered};
+ghost use Rattle.wasm_syntax.specs.Numbering.{nested_in, outermost, offset_of, is_numbered};
 
-use crate::sorts::instr_nesting;
 use std::alloc::{AllocError, Global};
 use wasm_syntax::{BlockId, Data, Elem, Func, GlobalDef, Instr, Mode, Module};
 
@@ -12,7 +11,7 @@ fn add_nested(pending: &mut Vec<BlockId>, code: &[Instr]) -> Result<(), AllocErr
     ensures { OnOk result (pending.new.items ≡ pending.old.items ++ flat_map nested_in code.now) }
 {
     for instr in code {
-        if let Some(nesting) = instr_nesting(instr) {
+        if let Some(nesting) = instr.nesting() {
             pending.push(nesting.body)?;
             if let Some(other) = nesting.other {
                 pending.push(other)?;

@@ -2,7 +2,7 @@
 
 ghost use Rattle.std.specs.Prelude.{◌≡◌, ◌∷◌, reverse, slice_get, length};
 ghost use Rattle.std.specs.Option.{option_copied};
-ghost use Rattle.wasm_valid.specs.Places.{labels_in};
+ghost use Rattle.wasm_valid.specs.Places.{labels_at};
 
 use crate::operands::Saved;
 use crate::types::{Types, types_of};
@@ -45,7 +45,7 @@ pub struct Opens {
 impl Opens {
     /// The types of a label, which counts the open blocks from the innermost on.
     pub fn label<'a>(&self, module: &'a Module, index: u32) -> Option<&'a [ValType]>
-        ensures { option_copied result ≡ slice_get (labels_in «module».now self.now.top (reverse self.now.outer.items)) index }
+        ensures { option_copied result ≡ slice_get (labels_at «module».now self.now) index }
     {
         let index = index as usize;
         if index == 0 {

@@ -2,11 +2,10 @@
 
 ghost use Rattle.std.specs.Prelude.{◌≡◌, ◌+◌, ◌≤◌, ◌-◌, ◌++◌, [], ◌∷◌, length, reverse, map, take, drop, Some, None, true, false, is_some, MatchOption, IfOk, OnOk, option_to_list};
 ghost use Rattle.wasm_valid.specs.Operands.{take_any, take_one, take_all, put, exchange, leaves, anything, exactly, fits, is_empty};
-ghost use Rattle.wasm_valid.specs.Piles.{Becomes};
+ghost use Rattle.wasm_valid.specs.Piles.{Becomes, is_anything};
 ghost use Rattle.wasm_valid.specs.Signatures.{takes_of};
 
 use crate::signature::{Signature, Takes};
-use crate::types::same_types;
 use std::alloc::{AllocError, Global};
 use std::marker::Model;
 use wasm_syntax::ValType;
@@ -43,7 +42,7 @@ pub fn type_fits(ty: ValType, operand: Option<ValType>) -> bool
     ensures { result ≡ fits ty operand }
 {
     match operand {
-        Some(found) => same_types(ty, found),
+        Some(found) => ty.is_same(found),
         None => true,
     }
 }
@@ -101,13 +100,23 @@ impl OperandList {
         }
     }
 
-    /// Takes topmost operands of these types, which stand in their order.
+    /// Whether the place is one that is never reached and no operand stands there, so that operands of all types may be taken.
+    fn takes_anything(&self) -> bool
+        ensures { result ≡ is_anything self.now.own }
+    {
+        self.any && self.list.len() == self.base
+    }
+
+    /// Takes topmost operands of these types, which stand in their order. Where anything may be taken it is taken at once.
     pub fn pop_types(&mut self, types: &[ValType]) -> bool
         ensures own { Becomes (take_all (reverse types.now) self.old.own) result self.new.own }
         ensures under { self.new.under ≡ self.old.under }
     {
         let mut left = types.len();
         while left > 0 {
+            if self.takes_anything() {
+                return true;
+            }
             left -= 1;
             if !self.pop_type(types[left]) {
                 return false;

@@ -1,24 +1,23 @@
 //! The pass over a body: one list of operands, one list of open blocks.
 
 ghost use Rattle.std.specs.Prelude.{◌≡◌, ◌+◌, ◌^◌, ◌<◌, ◌≤◌, ◌∷◌, [], length, max, suc, IfOk, OnOk, MatchOption};
-ghost use Rattle.wasm_valid.specs.Spaces.{block_type};
+ghost use Rattle.wasm_syntax.specs.ValueTypes.{block_type};
 ghost use Rattle.wasm_valid.specs.Signatures.{types_in};
-ghost use Rattle.wasm_valid.specs.Sorts.{nesting_of};
+ghost use Rattle.wasm_syntax.specs.Sorts.{sort_of, nesting_in};
 ghost use Rattle.wasm_valid.specs.Operands.{exactly};
 ghost use Rattle.wasm_valid.specs.Piles.{Becomes};
 ghost use Rattle.wasm_valid.specs.Typing.{is_block, block_height, most_nested, tested};
-ghost use Rattle.wasm_valid.specs.Places.{Frame, IsPlace, Goes, Moves, Closes, BodyIs, NestsAt, opened_by, place_of, rest_of, next_open, step_of};
+ghost use Rattle.wasm_valid.specs.Places.{Frame, IsPlace, Goes, Moves, Closes, BodyIs, NestsAt, frame_at, body_typed, body_tall, opened_by, place_of, rest_of, next_open, step_of};
 ghost use Rattle.wasm_valid.specs.Views.{IsSpaces};
 
 use crate::flat::pass_flat;
 use crate::locals::Locals;
 use crate::opens::{MOST_NESTED, Open, Opens, Outer};
 use crate::operands::OperandList;
-use crate::sorts::{Nesting, instr_nesting};
 use crate::spaces::Spaces;
 use crate::types::{Types, types_of};
 use std::alloc::{AllocError, Global};
-use wasm_syntax::{BlockId, BlockType, Instr, Module, ValType};
+use wasm_syntax::{BlockId, BlockType, Instr, Module, Nesting, Sort, ValType};
 
 /// What a step came to.
 #[derive(Clone, Copy)]
@@ -149,14 +148,16 @@ impl Pass {
         locals: &Locals,
         results: Types,
         instr: &Instr,
+        sort: Sort,
     ) -> Result<bool, AllocError>
         requires spaces { IsSpaces «module».now spaces.now }
         requires place { IsPlace (place_of self.old.operands self.old.opens) }
         requires at { rest_of «module».now self.old.opens.top ≡ instr.now ∷ rest_of «module».now (next_open self.old.opens.top) }
-        requires flat { nesting_of instr.now ≡ None }
+        requires sort { sort ≡ sort_of instr.now }
+        requires flat { nesting_in sort ≡ None }
         requires fits { self.old.opens.top.at + 1 < 2 ^ 64 }
         requires counted { length self.old.operands.own.types + length self.old.operands.under ≤ self.old.highest }
-        ensures goes { IfOk result (λ fine. Goes «module».now (record { locals = locals.now; results = types_in «module».now results }) (place_of self.old.operands self.old.opens) self.old.highest fine (place_of self.new.operands self.new.opens)) }
+        ensures goes { IfOk result (λ fine. Goes «module».now (frame_at «module».now locals.now results) (place_of self.old.operands self.old.opens) self.old.highest fine (place_of self.new.operands self.new.opens)) }
         ensures highest { self.new.highest ≡ self.old.highest }
     {
         let fine = pass_flat(
@@ -167,6 +168,7 @@ impl Pass {
             locals,
             results,
             instr,
+            sort,
         )?;
         self.opens.top.at += 1;
         Ok(fine)
@@ -203,8 +205,7 @@ impl Pass {
                 Ok(Step::Went)
             }
             None => {
-                self.operands.push_types(results)?;
-                self.note();
+                self.highest = self.highest.max(results.len());
                 Ok(Step::Ended)
             }
         }
@@ -255,7 +256,7 @@ impl Pass {
     ) -> Result<Step, AllocError>
         requires spaces { IsSpaces «module».now spaces.now }
         requires place { IsPlace (place_of self.old.operands self.old.opens) }
-        ensures moves { IfOk result (λ step. Moves «module».now (record { locals = locals.now; results = types_in «module».now results }) (place_of self.old.operands self.old.opens) self.old.highest step (place_of self.new.operands self.new.opens) self.new.highest) }
+        ensures moves { IfOk result (λ did. Moves «module».now (frame_at «module».now locals.now results) (place_of self.old.operands self.old.opens) self.old.highest did (place_of self.new.operands self.new.opens) self.new.highest) }
     {
         self.note();
         let code = module.code(self.opens.top.block);
@@ -265,13 +266,13 @@ impl Pass {
             return Ok(step);
         }
         let instr = &code[at];
-        match instr_nesting(instr) {
-            Some(nesting) => {
+        match instr.sort() {
+            Sort::Nested(nesting) => {
                 let fine = self.open_block(module, nesting)?;
                 Ok(went(fine))
             }
-            None => {
-                let fine = self.go_flat(module, spaces, locals, results, instr)?;
+            sort => {
+                let fine = self.go_flat(module, spaces, locals, results, instr, sort)?;
                 Ok(went(fine))
             }
         }
@@ -288,10 +289,7 @@ pub fn body_of(
     body: BlockId,
 ) -> Result<Option<usize>, AllocError>
     requires { IsSpaces «module».now spaces.now }
-    ensures { IfOk result (λ height. BodyIs
-        (is_block «module».now (suc most_nested) (record { locals = locals.now; labels = types_in «module».now (Types.Results ty) ∷ []; results = types_in «module».now (Types.Results ty) }) body (record { params = []; results = types_in «module».now (Types.Results ty) }))
-        (block_height «module».now (suc most_nested) (record { locals = locals.now; labels = types_in «module».now (Types.Results ty) ∷ []; results = types_in «module».now (Types.Results ty) }) body (record { params = []; results = types_in «module».now (Types.Results ty) }))
-        height) }
+    ensures { IfOk result (λ height. BodyIs (body_typed «module».now locals.now ty body) (body_tall «module».now locals.now ty body) height) }
 {
     let results = Types::Results(ty);
     let mut pass = Pass {

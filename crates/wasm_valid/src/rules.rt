@@ -8,9 +8,8 @@ ghost use Rattle.wasm_valid.specs.Views.{IsSpaces};
 use crate::flat::type_of_func;
 use crate::signature::table_type;
 use crate::spaces::Spaces;
-use crate::types::{is_reference_type, same_types};
 use std::alloc::{AllocError, Global};
-use std::collections::HashSet;
+use std::collections::BTreeSet;
 use wasm_syntax::{
     BlockId, Data, Elem, Export, ExportDesc, Func, GlobalDef, Import, ImportDesc, Instr, Limit,
     Mode, Module, TableType, ValType,
@@ -43,7 +42,7 @@ fn is_fine_limit(limit: Limit) -> bool
 fn is_fine_table(table: TableType) -> bool
     ensures { result ≡ is_table table }
 {
-    is_reference_type(table.elem) && is_fine_limit(table.limit)
+    table.elem.is_element() && is_fine_limit(table.limit)
 }
 
 fn is_fine_memory(limit: Limit) -> bool
@@ -66,45 +65,27 @@ fn is_fine_import(module: &Module, desc: ImportDesc) -> bool
 fn are_fine_imports(module: &Module, imports: &[Import]) -> bool
     ensures { result ≡ list_all (λ import. is_import «module».now import.desc) imports.now }
 {
-    for import in imports {
-        if !is_fine_import(module, import.desc) {
-            return false;
-        }
-    }
-    true
+    imports
+        .iter()
+        .all(|import| is_fine_import(module, import.desc))
 }
 
 fn have_types(module: &Module, funcs: &[Func]) -> bool
     ensures { result ≡ list_all (λ f. type_exists «module».now f.ty) funcs.now }
 {
-    for func in funcs {
-        if !has_type(module, func.ty) {
-            return false;
-        }
-    }
-    true
+    funcs.iter().all(|func| has_type(module, func.ty))
 }
 
 fn are_fine_tables(tables: &[TableType]) -> bool
     ensures { result ≡ list_all is_table tables.now }
 {
-    for table in tables {
-        if !is_fine_table(*table) {
-            return false;
-        }
-    }
-    true
+    tables.iter().all(|table| is_fine_table(*table))
 }
 
 fn are_fine_memories(memories: &[Limit]) -> bool
     ensures { result ≡ list_all is_memory memories.now }
 {
-    for memory in memories {
-        if !is_fine_memory(*memory) {
-            return false;
-        }
-    }
-    true
+    memories.iter().all(|memory| is_fine_memory(*memory))
 }
 
 /// The type of the value of a constant instruction.
@@ -115,13 +96,7 @@ fn constant_value(module: &Module, spaces: &Spaces, instr: &Instr) -> Option<Val
     match instr {
         Instr::I32Const(_) => Some(ValType::I32),
         Instr::I64Const(_) => Some(ValType::I64),
-        Instr::RefNull(ty) => {
-            if is_reference_type(*ty) {
-                Some(*ty)
-            } else {
-                None
-            }
-        }
+        Instr::RefNull(ty) => { if ty.is_reference() { Some(*ty) } else { None } }
         Instr::RefFunc(index) => match type_of_func(module, spaces, *index) {
             Some(_) => Some(ValType::FuncRef),
             None => None,
@@ -144,7 +119,7 @@ fn has_value_type(ty: ValType, value: Option<ValType>) -> bool
     ensures { result ≡ is_type ty value }
 {
     match value {
-        Some(found) => same_types(ty, found),
+        Some(found) => ty.is_same(found),
         None => false,
     }
 }
@@ -164,12 +139,7 @@ fn are_fine_globals(module: &Module, spaces: &Spaces, globals: &[GlobalDef]) -> 
     requires { IsSpaces «module».now spaces.now }
     ensures { result ≡ list_all (is_global «module».now) globals.now }
 {
-    for global in globals {
-        if !is_fine_constant(module, spaces, global.ty.val, global.init) {
-            return false;
-        }
-    }
-    true
+    globals.iter().all(|global| is_fine_constant(module, spaces, global.ty.val, global.init))
 }
 
 fn is_fine_export(module: &Module, spaces: &Spaces, desc: ExportDesc) -> bool
@@ -188,25 +158,21 @@ fn are_fine_exports(module: &Module, spaces: &Spaces, exports: &[Export]) -> boo
     requires { IsSpaces «module».now spaces.now }
     ensures { result ≡ list_all (λ export. is_export «module».now export.desc) exports.now }
 {
-    for export in exports {
-        if !is_fine_export(module, spaces, export.desc) {
-            return false;
-        }
-    }
-    true
+    exports
+        .iter()
+        .all(|export| is_fine_export(module, spaces, export.desc))
 }
 
-/// Whether no two exports have one name.
+/// Whether no two exports have one name. The names are kept in order, so that none that are chosen for it take longer.
 fn are_apart(alloc: Global, exports: &[Export]) -> Result<bool, AllocError>
     ensures { IfOk result (λ apart. apart ≡ names_differ exports.now) }
 {
-    let mut names: HashSet<&str> = HashSet::new(alloc);
+    let mut names: BTreeSet<&str> = BTreeSet::new(alloc);
     for export in exports {
-        let name = export.name.as_str();
-        if names.contains(name) {
+        let is_new = names.insert(export.name.as_str())?;
+        if !is_new {
             return Ok(false);
         }
-        let _ = names.insert(name)?;
     }
     Ok(true)
 }
@@ -228,7 +194,7 @@ fn holds_type(ty: ValType, table: Option<TableType>) -> bool
     ensures { result ≡ holds ty table }
 {
     match table {
-        Some(table) => same_types(ty, table.elem),
+        Some(table) => ty.is_same(table.elem),
         None => false,
     }
 }
@@ -251,19 +217,16 @@ fn are_fine_items(module: &Module, spaces: &Spaces, ty: ValType, items: &[BlockI
     requires { IsSpaces «module».now spaces.now }
     ensures { result ≡ list_all (is_constant «module».now ty) items.now }
 {
-    for item in items {
-        if !is_fine_constant(module, spaces, ty, *item) {
-            return false;
-        }
-    }
-    true
+    items
+        .iter()
+        .all(|item| is_fine_constant(module, spaces, ty, *item))
 }
 
 fn is_fine_elem(module: &Module, spaces: &Spaces, elem: &Elem) -> bool
     requires { IsSpaces «module».now spaces.now }
     ensures { result ≡ is_elem «module».now elem.now }
 {
-    is_reference_type(elem.ty)
+    elem.ty.is_element()
         && are_fine_items(module, spaces, elem.ty, elem.items.as_slice())
         && is_fine_mode(module, spaces, elem.ty, elem.mode)
 }
@@ -272,12 +235,7 @@ fn are_fine_elems(module: &Module, spaces: &Spaces, elems: &[Elem]) -> bool
     requires { IsSpaces «module».now spaces.now }
     ensures { result ≡ list_all (is_elem «module».now) elems.now }
 {
-    for elem in elems {
-        if !is_fine_elem(module, spaces, elem) {
-            return false;
-        }
-    }
-    true
+    elems.iter().all(|elem| is_fine_elem(module, spaces, elem))
 }
 
 fn is_fine_data(module: &Module, spaces: &Spaces, mode: Mode) -> bool
@@ -298,12 +256,9 @@ fn are_fine_datas(module: &Module, spaces: &Spaces, datas: &[Data]) -> bool
     requires { IsSpaces «module».now spaces.now }
     ensures { result ≡ list_all (λ segment. is_data «module».now segment.mode) datas.now }
 {
-    for data in datas {
-        if !is_fine_data(module, spaces, data.mode) {
-            return false;
-        }
-    }
-    true
+    datas
+        .iter()
+        .all(|data| is_fine_data(module, spaces, data.mode))
 }
 
 /// Whether a module obeys the rules that stand outside the bodies, but for the numbering of the blocks.

@@ -1,16 +1,17 @@
 //! The types of instructions (WebAssembly Core 2.0, sections 3.3.1 to 3.3.7).
 
 ghost use Rattle.std.specs.Prelude.{◌≡◌, ◌&&◌, option_map, option_to_list, [], nat_le, nat_lt, length, slice_get, is_some};
-ghost use Rattle.wasm_valid.specs.Spaces.{when, has_memory, same_type, func_type, is_declared, tables_of, globals_of};
+ghost use Rattle.wasm_syntax.specs.NumberTypes.{type_of_number, source_of, target_of, natural_alignment};
+ghost use Rattle.wasm_valid.specs.Spaces.{when, has_memory, func_type, is_declared, tables_of, globals_of};
 ghost use Rattle.wasm_valid.specs.Typing.{goes, signature};
 ghost use Rattle.wasm_valid.specs.Signatures.{takes_of, signature_of};
 ghost use Rattle.wasm_valid.specs.Views.{IsSpaces};
 
 use crate::locals::Locals;
-use crate::sorts::Sort;
 use crate::spaces::Spaces;
-use crate::types::{is_reference_type, same_types};
-use wasm_syntax::{GlobalType, Module, TableType, ValType};
+use wasm_syntax::{
+    ConvOp, GlobalType, MemArg, Module, Num, NumType, Simple, TableType, ValType, Width,
+};
 
 /// The types of the operands that an instruction takes, the topmost first.
 #[derive(Clone, Copy, PartialEq, Eq, Debug)]
@@ -51,11 +52,50 @@ fn is_there(module: &Module, spaces: &Spaces) -> bool
     spaces.mems.len() > 0
 }
 
-fn is_aligned(module: &Module, spaces: &Spaces, width: u32, align: u32) -> bool
-    requires { IsSpaces «module».now spaces.now }
-    ensures { result ≡ (has_memory «module».now && nat_le align width) }
+fn number_type(number: Num) -> NumType
+    ensures { result ≡ type_of_number number }
 {
-    is_there(module, spaces) && align <= width
+    match number {
+        Num::I32(_) => NumType::I32,
+        Num::I64(_) => NumType::I64,
+    }
+}
+
+fn source(op: ConvOp) -> NumType
+    ensures { result ≡ source_of op }
+{
+    match op {
+        ConvOp::Wrap => NumType::I64,
+        ConvOp::ExtendS | ConvOp::ExtendU => NumType::I32,
+    }
+}
+
+fn target(op: ConvOp) -> NumType
+    ensures { result ≡ target_of op }
+{
+    match op {
+        ConvOp::Wrap => NumType::I32,
+        ConvOp::ExtendS | ConvOp::ExtendU => NumType::I64,
+    }
+}
+
+/// The alignment of a width, by its exponent of 2 in bytes.
+fn alignment(width: Width) -> u32
+    ensures { result ≡ natural_alignment width }
+{
+    match width {
+        Width::Bits8 => 0,
+        Width::Bits16 => 1,
+        Width::Bits32 => 2,
+        Width::Bits64 => 3,
+    }
+}
+
+fn is_aligned(module: &Module, spaces: &Spaces, width: Width, at: MemArg) -> bool
+    requires { IsSpaces «module».now spaces.now }
+    ensures { result ≡ (has_memory «module».now && nat_le at.align (natural_alignment width)) }
+{
+    is_there(module, spaces) && at.align <= alignment(width)
 }
 
 fn is_data(module: &Module, index: u32) -> bool
@@ -111,93 +151,107 @@ fn may_refer(module: &Module, spaces: &Spaces, index: u32) -> bool
     }
 }
 
-/// The type of an instruction of this sort, or none where a rule on its immediates fails.
-pub fn sort_signature(
+/// The type of a simple instruction, or none where a rule on its immediates fails.
+pub fn simple_signature(
     module: &Module,
     spaces: &Spaces,
     locals: &Locals,
-    sort: Sort,
+    simple: Simple,
 ) -> Option<Signature>
     requires { IsSpaces «module».now spaces.now }
-    ensures { option_map signature_of result ≡ signature «module».now locals.now sort }
+    ensures { option_map signature_of result ≡ signature «module».now locals.now simple }
 {
-    match sort {
-        Sort::Nop => typed(Takes::Nothing, None),
-        Sort::Const(ty) => typed(Takes::Nothing, Some(ty)),
-        Sort::Unary(ty) => typed(Takes::One(ty), Some(ty)),
-        Sort::Binary(ty) => typed(Takes::Two(ty, ty), Some(ty)),
-        Sort::Test(ty) => typed(Takes::One(ty), Some(ValType::I32)),
-        Sort::Compare(ty) => typed(Takes::Two(ty, ty), Some(ValType::I32)),
-        Sort::Convert { from, to } => typed(Takes::One(from), Some(to)),
-        Sort::Load { ty, width, align } => typed_where(
-            is_aligned(module, spaces, width, align),
-            Takes::One(ValType::I32),
-            Some(ty),
+    match simple {
+        Simple::Nop => typed(Takes::Nothing, None),
+        Simple::Const(number) => typed(Takes::Nothing, Some(number_type(number).value_type())),
+        Simple::Unary(ty, _) => typed(Takes::One(ty.value_type()), Some(ty.value_type())),
+        Simple::Binary(ty, _) => typed(
+            Takes::Two(ty.value_type(), ty.value_type()),
+            Some(ty.value_type()),
         ),
-        Sort::Store { ty, width, align } => typed_where(
-            is_aligned(module, spaces, width, align),
-            Takes::Two(ty, ValType::I32),
+        Simple::Test(ty) => typed(Takes::One(ty.value_type()), Some(ValType::I32)),
+        Simple::Compare(ty, _) => typed(
+            Takes::Two(ty.value_type(), ty.value_type()),
+            Some(ValType::I32),
+        ),
+        Simple::Convert(op) => typed(
+            Takes::One(source(op).value_type()),
+            Some(target(op).value_type()),
+        ),
+        Simple::Load {
+            ty,
+            width,
+            extension: _,
+            at,
+        } => typed_where(
+            is_aligned(module, spaces, width, at),
+            Takes::One(ValType::I32),
+            Some(ty.value_type()),
+        ),
+        Simple::Store { ty, width, at } => typed_where(
+            is_aligned(module, spaces, width, at),
+            Takes::Two(ty.value_type(), ValType::I32),
             None,
         ),
-        Sort::MemorySize => typed_where(
+        Simple::MemorySize => typed_where(
             is_there(module, spaces),
             Takes::Nothing,
             Some(ValType::I32),
         ),
-        Sort::MemoryGrow => typed_where(
+        Simple::MemoryGrow => typed_where(
             is_there(module, spaces),
             Takes::One(ValType::I32),
             Some(ValType::I32),
         ),
-        Sort::MemoryInit(index) => typed_where(is_source(module, spaces, index), BULK, None),
-        Sort::DataDrop(index) => typed_where(is_data(module, index), Takes::Nothing, None),
-        Sort::MemoryCopy => typed_where(is_there(module, spaces), BULK, None),
-        Sort::MemoryFill => typed_where(is_there(module, spaces), BULK, None),
-        Sort::LocalGet(index) => match locals.get(index) {
+        Simple::MemoryInit(index) => typed_where(is_source(module, spaces, index), BULK, None),
+        Simple::DataDrop(index) => typed_where(is_data(module, index), Takes::Nothing, None),
+        Simple::MemoryCopy => typed_where(is_there(module, spaces), BULK, None),
+        Simple::MemoryFill => typed_where(is_there(module, spaces), BULK, None),
+        Simple::LocalGet(index) => match locals.get(index) {
             Some(ty) => typed(Takes::Nothing, Some(ty)),
             None => None,
         },
-        Sort::LocalSet(index) => match locals.get(index) {
+        Simple::LocalSet(index) => match locals.get(index) {
             Some(ty) => typed(Takes::One(ty), None),
             None => None,
         },
-        Sort::LocalTee(index) => match locals.get(index) {
+        Simple::LocalTee(index) => match locals.get(index) {
             Some(ty) => typed(Takes::One(ty), Some(ty)),
             None => None,
         },
-        Sort::GlobalGet(index) => match global_type(module, spaces, index) {
+        Simple::GlobalGet(index) => match global_type(module, spaces, index) {
             Some(global) => typed(Takes::Nothing, Some(global.val)),
             None => None,
         },
-        Sort::GlobalSet(index) => match global_type(module, spaces, index) {
+        Simple::GlobalSet(index) => match global_type(module, spaces, index) {
             Some(global) => typed_where(global.mutable, Takes::One(global.val), None),
             None => None,
         },
-        Sort::TableGet(index) => match table_type(module, spaces, index) {
+        Simple::TableGet(index) => match table_type(module, spaces, index) {
             Some(table) => typed(Takes::One(ValType::I32), Some(table.elem)),
             None => None,
         },
-        Sort::TableSet(index) => match table_type(module, spaces, index) {
+        Simple::TableSet(index) => match table_type(module, spaces, index) {
             Some(table) => typed(Takes::Two(table.elem, ValType::I32), None),
             None => None,
         },
-        Sort::TableInit { elem, table } => init_signature(module, spaces, elem, table),
-        Sort::ElemDrop(index) => typed_where(is_segment(module, index), Takes::Nothing, None),
-        Sort::TableCopy { to, from } => copy_signature(module, spaces, to, from),
-        Sort::TableGrow(index) => match table_type(module, spaces, index) {
+        Simple::TableInit { elem, table } => init_signature(module, spaces, elem, table),
+        Simple::ElemDrop(index) => typed_where(is_segment(module, index), Takes::Nothing, None),
+        Simple::TableCopy { to, from } => copy_signature(module, spaces, to, from),
+        Simple::TableGrow(index) => match table_type(module, spaces, index) {
             Some(table) => typed(Takes::Two(ValType::I32, table.elem), Some(ValType::I32)),
             None => None,
         },
-        Sort::TableSize(index) => match table_type(module, spaces, index) {
+        Simple::TableSize(index) => match table_type(module, spaces, index) {
             Some(_) => typed(Takes::Nothing, Some(ValType::I32)),
             None => None,
         },
-        Sort::TableFill(index) => match table_type(module, spaces, index) {
+        Simple::TableFill(index) => match table_type(module, spaces, index) {
             Some(table) => typed(Takes::Three(ValType::I32, table.elem, ValType::I32), None),
             None => None,
         },
-        Sort::RefNull(ty) => typed_where(is_reference_type(ty), Takes::Nothing, Some(ty)),
-        Sort::RefFunc(index) => typed_where(
+        Simple::RefNull(ty) => typed_where(ty.is_reference(), Takes::Nothing, Some(ty)),
+        Simple::RefFunc(index) => typed_where(
             may_refer(module, spaces, index),
             Takes::Nothing,
             Some(ValType::FuncRef),
@@ -207,11 +261,11 @@ pub fn sort_signature(
 
 fn init_signature(module: &Module, spaces: &Spaces, elem: u32, table: u32) -> Option<Signature>
     requires { IsSpaces «module».now spaces.now }
-    ensures { option_map signature_of result ≡ signature «module».now [] (Sort.TableInit elem table) }
+    ensures { option_map signature_of result ≡ signature «module».now [] (Simple.TableInit elem table) }
 {
     match segment_type(module, elem) {
         Some(segment) => match table_type(module, spaces, table) {
-            Some(table) => typed_where(same_types(segment, table.elem), BULK, None),
+            Some(table) => typed_where(segment.is_same(table.elem), BULK, None),
             None => None,
         },
         None => None,
@@ -220,11 +274,11 @@ fn init_signature(module: &Module, spaces: &Spaces, elem: u32, table: u32) -> Op
 
 fn copy_signature(module: &Module, spaces: &Spaces, to: u32, from: u32) -> Option<Signature>
     requires { IsSpaces «module».now spaces.now }
-    ensures { option_map signature_of result ≡ signature «module».now [] (Sort.TableCopy to from) }
+    ensures { option_map signature_of result ≡ signature «module».now [] (Simple.TableCopy to from) }
 {
     match table_type(module, spaces, to) {
         Some(target) => match table_type(module, spaces, from) {
-            Some(source) => typed_where(same_types(target.elem, source.elem), BULK, None),
+            Some(source) => typed_where(target.elem.is_same(source.elem), BULK, None),
             None => None,
         },
         None => None,

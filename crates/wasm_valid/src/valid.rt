@@ -65,10 +65,11 @@ impl ValidModule {
     }
 
     /// The height of the body of one of the module's own functions, counted without the imported ones: the greatest number of
-    /// operands at any of its places.
+    /// operands at any of its places. That body is typed.
     pub fn height(&self, function: u32) -> u64
         requires { function < length self.now.funcs }
-        ensures { option_map (body_height self.now) (slice_get self.now.funcs function) ≡ Some result }
+        ensures height { option_map (body_height self.now) (slice_get self.now.funcs function) ≡ Some result }
+        ensures typed_body { option_map (is_typed_body self.now) (slice_get self.now.funcs function) ≡ Some true }
     {
         self.heights[function as usize]
     }

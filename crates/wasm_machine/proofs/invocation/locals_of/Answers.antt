@@ -1,5 +1,4 @@
-use Rattle.std.proofs.Common.{◌≡◌, ℕ, ◌<◌, ◌≤◌, ◌+◌, List, ◌++◌, [], replicate, drop, refl, sym, ap, ◌∙◌, length, append_assoc, arith}
-use Rattle.std.proofs.lemmas.List.{append-nil, at_drop_more}
+use Rattle.std.proofs.Common.{ℕ, List, ◌++◌, ap, ◌∙◌}
 use Rattle.wasm_machine.specs.Invocations.{zeros_of}
 use Rattle.wasm_machine.proofs.Locals.{more_zeros, all_zeros}
 use Rattle.wasm_machine.proofs.invocation.locals_of.Goals as goal

@@ -1,8 +1,6 @@
 use Rattle.std.proofs.Common.{◌≡◌, ℕ, List, Option, IfOk, ◌∙◌, sym, ap, subst, length}
-use Rattle.wasm_syntax.specs.declared.module.Func.{Func}
 use Rattle.wasm_syntax.specs.declared.instructions.Instr.{Instr}
-use Rattle.wasm_machine.specs.Small.{small_result}
-use Rattle.wasm_machine.specs.Frames.{Flows, Units, run_left}
+use Rattle.wasm_machine.specs.Frames.{Units, run_left}
 use Rattle.wasm_machine.proofs.Invoking.{body_flows, result_is, units_are}
 use Rattle.wasm_machine.proofs.invocation.run_small.Goals as goal
 

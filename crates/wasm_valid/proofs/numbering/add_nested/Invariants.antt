@@ -1,5 +1,5 @@
 use Rattle.std.proofs.Common.{◌≡◌, ◌++◌, flat_map, take}
-use Rattle.wasm_valid.specs.ModuleRules.{nested_in}
+use Rattle.wasm_syntax.specs.Numbering.{nested_in}
 use Rattle.wasm_valid.proofs.numbering.add_nested.Given as goal
 
 abbrev pub invariant-loop-instr : goal.invariant-loop-instr

@@ -1,6 +1,6 @@
 use Rattle.std.proofs.Common.{ℕ, List, ◌∙◌, ◌++◌, sym, ap, subst, flat_map}
 use Rattle.wasm_syntax.specs.declared.instructions.Instr.{Instr}
-use Rattle.wasm_valid.specs.ModuleRules.{nested_in}
+use Rattle.wasm_syntax.specs.Numbering.{nested_in}
 use Rattle.wasm_valid.proofs.NumberLaws.{Pending, pending_first, wrong_number, right_number, found_or_not}
 use Rattle.wasm_valid.proofs.numbering.has_numbering.Goals as goal
 

@@ -1,7 +1,6 @@
-use Rattle.std.proofs.Common.{◌≡◌, ℕ, ◌<◌, ◌+◌, ◌++◌, ◌∷◌, [], Some, None, refl, sym, ap, subst, ◌∙◌, length, drop, arith}
+use Rattle.std.proofs.Common.{◌≡◌, ◌<◌, ◌++◌, ◌∷◌, [], refl, sym, ap, subst, ◌∙◌, length, arith}
 use Rattle.std.specs.Option.{option_to_list}
-use Rattle.wasm_syntax.specs.declared.instructions.Instr.{Instr}
-use Rattle.wasm_machine.specs.Frames.{run_left, Finds, operands_after, Flows}
+use Rattle.wasm_machine.specs.Frames.{run_left, Flows}
 use Rattle.wasm_machine.proofs.Acts.{one_step, no_step, flows_now, at_end, last_step, one_left}
 use Rattle.wasm_machine.proofs.frame.Frame.run.Goals as goal
 
