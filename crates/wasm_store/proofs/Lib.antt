@@ -1,0 +1,9 @@
+pub mod Later
+pub mod Zips
+pub mod Keeps
+pub mod LawLemmas
+pub mod TableLaws
+pub mod Steps
+pub mod RuleLaws
+pub mod Fresh
+pub mod AllocatedLaws

@@ -1,0 +1,6 @@
+pub mod Store
+pub mod Growth
+pub mod Whole
+pub mod View
+pub mod Laws
+pub mod Allocated
