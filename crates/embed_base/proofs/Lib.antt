@@ -1,1 +1,2 @@
 mod FirstFile
+mod Consuming

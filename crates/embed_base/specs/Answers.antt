@@ -1,5 +1,5 @@
 -- A fact for one answer of a call to the outside world.
-use Rattle.std.specs.Prelude.{Result, Err}
+use Rattle.std.specs.Prelude.{Bool, true, Result, Ok, Err}
 use Rattle.embed_base.specs.declared.files.FileError.{FileError}
 use Rattle.embed_base.specs.declared.files.FileError.TheVariants as files
 use Rattle.embed_base.specs.declared.sink.SinkError.{SinkError}
@@ -41,3 +41,8 @@ OnFailedWrite _ P = Unit {0}
 abbrev pub UnlessFailedWrite : {A : Type 0} → Result A SinkError → Type 0 → Type 0
 UnlessFailedWrite (Err sinks.Failed) P = Unit {0}
 UnlessFailedWrite _ P = P
+
+-- a fact that holds where the answer is true
+abbrev pub OnTrue : {E : Type 0} → Result Bool E → Type 0 → Type 0
+OnTrue (Ok true) P = P
+OnTrue _ P = Unit {0}

@@ -3,3 +3,4 @@ pub mod Answers
 pub mod Contents
 pub mod Names
 pub mod Memory
+pub mod MemoryCalls

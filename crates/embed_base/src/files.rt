@@ -75,5 +75,6 @@ pub trait Files {
         ensures content_stays { (other : List ℕ) → content self.new other ≡ content self.old other }
         ensures absent_stays { (other : List ℕ) → absent self.new other ≡ absent self.old other }
         ensures faults_stay { faults self.old ≤ faults self.new }
-        ensures taken_stays { taken self.old ≤ taken self.new };
+        ensures taken_stays { taken self.old ≤ taken self.new }
+        ensures taken_told { IfSome (content self.old name.now) (λ _. taken self.new ≡ taken self.old) };
 }

@@ -25,6 +25,3 @@ pub use real_sink::RealSink;
 pub use shared_string::SharedString;
 pub use sink::{Sink, SinkError};
 pub use status::Status;
-
-#[cfg(test)]
-mod tests;

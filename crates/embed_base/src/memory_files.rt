@@ -2,6 +2,7 @@ ghost use Rattle.std.specs.Prelude.{◌≡◌, ◌≤◌, [], ◌∷◌, None, S
 ghost use Rattle.std.specs.Option.{option_copied};
 ghost use Rattle.embed_base.specs.Counts.{raised};
 ghost use Rattle.embed_base.specs.Contents.{contents_of, content_of, content_or_empty};
+ghost use Rattle.embed_base.specs.MemoryCalls.{ReadGives, found_at};
 
 use crate::files::{FileError, Files};
 use std::alloc::Global;
@@ -56,6 +57,17 @@ impl MemFiles {
         }
     }
 
+    // The content that a read of this number finds.
+    fn found(&self, call: u64, name: &str) -> Option<&Vec<u8>>
+        ensures none { IfNone result (found_at self.now call name.now ≡ None) }
+        ensures some { IfSome result (λ bytes. found_at self.now call name.now ≡ Some bytes.now.items) }
+    {
+        if self.fail_at.contains(&call) {
+            return None;
+        }
+        find(&self.files, name)
+    }
+
     // Counts a read of this name that failed.
     fn fail(&mut self, name: String) -> FileError
         ensures answer { result ≡ FileError.Failed }
@@ -85,15 +97,15 @@ impl Files for MemFiles {
         name: &str,
         limit: u64,
         into: &mut Vec<u8>,
-    ) -> Result<(), FileError> {
+    ) -> Result<(), FileError>
+        ensures gives { ReadGives self.old name.now limit result into.new.items self.new }
+        ensures faults_stay { self.old.faults ≤ self.new.faults }
+    {
         into.clear();
         let call = self.calls;
         self.calls = call.saturating_add(1);
         let asked = String::from_str(alloc, name)?;
-        if self.fail_at.contains(&call) {
-            return Err(self.fail(asked));
-        }
-        let Some(content) = find(&self.files, name) else {
+        let Some(content) = self.found(call, name) else {
             return Err(self.fail(asked));
         };
         if content.len() as u64 > limit {

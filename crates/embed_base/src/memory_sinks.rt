@@ -1,4 +1,5 @@
-ghost use Rattle.std.specs.Prelude.{◌≡◌, ◌≤◌, [], Some};
+ghost use Rattle.std.specs.Prelude.{◌≡◌, ◌≤◌, ◌<◌, ◌++◌, [], Some, IfOk, MatchResult, length};
+ghost use Rattle.embed_base.specs.MemoryCalls.{WriteGives};
 
 use crate::sink::{Sink, SinkError};
 use std::alloc::Global;
@@ -54,7 +55,11 @@ impl Sink for MemSink {
 
     ghost faults = { λ s. s.faults };
 
-    fn write(&mut self, _alloc: Global, piece: &[u8]) -> Result<usize, SinkError> {
+    fn write(&mut self, _alloc: Global, piece: &[u8]) -> Result<usize, SinkError>
+        ensures gives { WriteGives self.old piece.now result self.new }
+        ensures some { IfOk result (λ size. 0 < length piece.now → 0 < size) }
+        ensures faults_stay { self.old.faults ≤ self.new.faults }
+    {
         let call = self.calls;
         self.calls = call.saturating_add(1);
         if self.fail_at.contains(&call) {
@@ -104,7 +109,9 @@ impl Sink for SureSink {
 
     ghost faults = { λ s. 0 };
 
-    fn write(&mut self, _alloc: Global, piece: &[u8]) -> Result<usize, SinkError> {
+    fn write(&mut self, _alloc: Global, piece: &[u8]) -> Result<usize, SinkError>
+        ensures whole { MatchResult result (λ size. (size ≡ length piece.now) × (self.new ≡ self.old ++ piece.now)) (λ error. (error ≡ SinkError.NoMemory) × (self.new ≡ self.old)) }
+    {
         self.bytes.extend_from_slice(piece)?;
         Ok(piece.len())
     }

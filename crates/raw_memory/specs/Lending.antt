@@ -1,4 +1,4 @@
--- What a block holds once the slice that it lent has ended.
+-- Private: what a block holds once the slice that it lent has ended.
 use Rattle.std.specs.Prelude.{ℕ, List, length}
 use Rattle.std.specs.Borrow.{Fml, MutBor, Array, Lends, u8}
 use Rattle.std.specs.List.{refill}

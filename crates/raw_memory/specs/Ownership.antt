@@ -1,4 +1,4 @@
--- What stands behind the pointer of a block, for the one who owns it and for one who reads it.
+-- Private: what stands behind the pointer of a block, for the one who owns it and for one who reads it.
 use Rattle.std.specs.Prelude.{ℕ, ◌+◌, ◌^◌, List, length}
 use base.Fml.{Lft, Fml, ffalse, fsep, flt, froom}
 use mir.Syntax.{Ty, w8, ty_int, ty_array}

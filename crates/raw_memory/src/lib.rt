@@ -8,6 +8,3 @@ mod block;
 mod raw_mem;
 
 pub use raw_mem::RawMem;
-
-#[cfg(test)]
-mod tests;

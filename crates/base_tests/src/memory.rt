@@ -1,7 +1,7 @@
 //! What no clause says: that memory is given where there is some, and each call once.
 ghost use Rattle.raw_memory.specs.Bytes.{IsWidth};
 
-use crate::RawMem;
+use raw_memory::RawMem;
 use std::mem::size_of;
 use std::process::Abort;
 use std::test::Fail;

@@ -1,4 +1,4 @@
-use crate::{
+use embed_base::{
     FileError, Files, MemFiles, MemSink, PlainList, PlainString, RealFiles, RealSink, SharedString,
     Sink, SinkError, Status, SureFiles, SureSink,
 };
@@ -109,6 +109,39 @@ fn files_of_the_system(rt: HostRuntime) -> Result<(), Fail> {
     assert!(rt; emptied);
     assert_eq!(rt; absent, Err(FileError::Failed));
     assert_eq!(rt; folder, Err(FileError::Failed));
+    Ok(())
+}
+
+// Writes a file of so many bytes, each the number of its place modulo 251, and reads it within a limit: the answer, and
+// whether all of it came.
+fn read_back(
+    rt: &HostRuntime,
+    name: &str,
+    size: usize,
+    limit: u64,
+) -> Result<(Result<(), FileError>, bool), Fail> {
+    let mut content = Vec::new(rt.alloc());
+    for place in 0..size {
+        content.push((place % 251) as u8)?;
+    }
+    fs::write(rt, name, content.as_slice())?;
+    let mut into = Vec::new(rt.alloc());
+    let answer = RealFiles::new(rt).read_whole(rt.alloc(), name, limit, &mut into);
+    fs::remove_file(rt, name)?;
+    Ok((answer, into.as_slice() == content.as_slice()))
+}
+
+#[test]
+fn files_of_the_system_are_read_to_their_end(rt: HostRuntime) -> Result<(), Fail> {
+    let name = "jspirun_file_of_several_pieces.txt";
+    for size in [0, 1, 16_383, 16_384, 16_385, 32_768, 50_001] {
+        assert_eq!(rt; read_back(&rt, name, size, 50_001)?, (Ok(()), true));
+        assert_eq!(rt; read_back(&rt, name, size, size as u64)?, (Ok(()), true));
+    }
+    for size in [1, 16_384, 16_385, 50_001] {
+        let answer = read_back(&rt, name, size, size as u64 - 1)?;
+        assert_eq!(rt; answer, (Err(FileError::TooLong), false));
+    }
     Ok(())
 }
 
