@@ -1,0 +1,7 @@
+mod Slots
+mod Acting
+mod Anew
+mod Reacting
+mod Elims
+mod Staying
+mod Places
