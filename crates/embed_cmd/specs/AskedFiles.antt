@@ -1,4 +1,4 @@
--- What reading the asked files gives. No public clause cites this.
+-- Private: what reading the asked files gives.
 use Rattle.std.specs.Prelude.{◌≡◌, ℕ, List, [], ◌∷◌, Option, Some, Result, Err, IfSome, MatchOption, true}
 use Rattle.embed_base.specs.Counts.{RoseByMore}
 use Rattle.embed_script.specs.declared.module_file.ModuleFile.{ModuleFile}

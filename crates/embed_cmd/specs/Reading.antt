@@ -1,4 +1,4 @@
--- What reading a script gives. No public clause cites this.
+-- Private: what reading a script gives.
 use Rattle.std.specs.Prelude.{ℕ, List, Result, Err}
 use Rattle.host_parser.specs.declared.script.Script.{Script as Tree}
 use Rattle.host_parser.specs.Grammar.{Script}

@@ -1,4 +1,4 @@
--- How words are sorted one after the other. No public clause cites this.
+-- Private: how words are sorted one after the other.
 use Rattle.std.specs.Prelude.{ℕ, List, ◌++◌, Option, None}
 use Rattle.std.specs.Option.{option_map}
 use Rattle.embed_cmd.specs.declared.sorting.Next.{Next}

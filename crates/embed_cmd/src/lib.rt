@@ -10,6 +10,3 @@ mod write;
 pub use embed_script::Transcript;
 pub use main_run::run_main;
 pub use words::{Asked, read_words};
-
-#[cfg(test)]
-mod validation_tests;

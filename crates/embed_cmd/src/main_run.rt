@@ -237,6 +237,3 @@ pub fn run_main<F: Files, O: Sink>(
         Err(Fault::NoMemory) => Status::NoMemory,
     }
 }
-
-#[cfg(test)]
-mod tests;

@@ -9,9 +9,6 @@ use embed_base::limits::{MOST_BUDGET, MOST_MODULES, USUAL_BUDGET};
 use embed_base::{PlainList, PlainString};
 use std::alloc::{AllocError, Global};
 
-#[cfg(test)]
-mod tests;
-
 /// The digits of a budget.
 const MOST_DIGITS: usize = 13;
 

@@ -1,4 +1,4 @@
--- How a function of the run answers a definition: with the same value or the same end, or because memory ran out.
+-- Private: how a function of the run answers a definition: with the same value or the same end, or because memory ran out.
 use Rattle.std.specs.Prelude.{◌≡◌, ℕ, List, Option, Some, None, Result, Ok, Err, IfSome}
 use Rattle.std.specs.declared.alloc.Global.{Global}
 use Rattle.std.specs.declared.vec.Vec.{Vec}

@@ -1,4 +1,4 @@
--- How an expression is evaluated without recursion: a list of tasks, the next one first, over a list of values, the last
+-- Private: how an expression is evaluated without recursion: a list of tasks, the next one first, over a list of values, the last
 -- one first. No public clause cites this.
 use Rattle.std.specs.Prelude.{◌≡◌, ℕ, zero, suc, ◌+◌, ◌-◌, ◌<◌, ◌≤◌, List, [], ◌∷◌, ◌++◌, reverse, length, map, take, drop, Option, Some, None, Result, Ok, Err, IsSomeAnd, slice_get, sum_by}
 use Rattle.std.specs.Option.{option_map}

@@ -17,6 +17,3 @@ mod value;
 pub use module_file::ModuleFile;
 pub use run::run_script;
 pub use transcript::Transcript;
-
-#[cfg(test)]
-mod tests;

@@ -4,8 +4,6 @@
 mod bytes;
 mod lexer;
 mod number;
-#[cfg(test)]
-mod tests;
 mod token;
 mod words;
 

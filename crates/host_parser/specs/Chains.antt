@@ -1,4 +1,4 @@
--- What the operands before an operator show.
+-- Private: what the operands before an operator show.
 use Rattle.std.specs.Prelude.{◌≡◌, List, [], ◌++◌, length}
 use Rattle.host_parser.specs.declared.script.NodeId.{NodeId}
 use Rattle.host_parser.specs.declared.script.Operand.{Operand}

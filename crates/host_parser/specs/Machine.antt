@@ -1,4 +1,4 @@
--- The reader of scripts as a machine over one token: what it has read, what is open, and what may come next. Derivations
+-- Private: the reader of scripts as a machine over one token: what it has read, what is open, and what may come next. Derivations
 -- nest to the left, so what stands before an operator or a comma is itself a derivation.
 use Rattle.std.specs.Prelude.{ℕ, ◌+◌, nat_lt, List, [], ◌∷◌, ◌++◌, Option, Some, None, Bool, true, false, cond}
 use Rattle.std.specs.Str.{bytes_eq}

@@ -1,4 +1,4 @@
--- The tokens of an instance that are the same in each one.
+-- Private: the tokens of an instance that are the same in each one.
 use Rattle.std.specs.Prelude.{ℕ, List, [], ◌∷◌, Bool, true, false, codes}
 use Rattle.std.specs.Str.{bytes_eq}
 use Rattle.host_lexer.specs.declared.token.Word.TheVariants as words

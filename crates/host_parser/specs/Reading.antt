@@ -1,4 +1,4 @@
--- What the reader shows of the machine that it follows.
+-- Private: what the reader shows of the machine that it follows.
 use Rattle.std.specs.Prelude.{◌≡◌, ℕ, List, [], ◌∷◌, reverse, Option, Some, None, Bool, true, false}
 use Rattle.std.specs.List.{list_any}
 use Rattle.std.specs.Str.{bytes_eq}

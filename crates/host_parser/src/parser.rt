@@ -43,6 +43,3 @@ pub fn parse(alloc: Global, tokens: &[Token], len: u32) -> Result<Script, ParseE
         _ => Err(ParseError::NotYet),
     }
 }
-
-#[cfg(test)]
-mod tests;

@@ -1,8 +1,8 @@
 ghost use Rattle.std.specs.Prelude.{◌≡◌, ℕ, List, Option, Some, None, []};
 ghost use Rattle.embed_base.specs.Counts.{last_count};
 
-use super::run_main;
 use embed_base::{MemFiles, MemSink, Sink, SinkError, Status, SureFiles, SureSink};
+use embed_cmd::run_main;
 use std::alloc::Global;
 use std::str;
 use std::test::Fail;

@@ -1,7 +1,6 @@
-use super::parse;
-use crate::script::{Form, Node, NodeId, Operator, ParseError, Script};
 use embed_base::PlainString;
 use host_lexer::{Mark, Token, TokenKind, Word};
+use host_parser::{Form, Node, NodeId, Operator, ParseError, Script, parse};
 use std::alloc::{AllocError, Global};
 use std::test::Fail;
 

@@ -1,4 +1,4 @@
-use crate::{LexError, Token, TokenKind, tokens};
+use host_lexer::{LexError, Token, TokenKind, tokens};
 use std::alloc::Global;
 use std::process::Abort;
 use std::test::Fail;

@@ -1,5 +1,5 @@
-use super::read_words;
 use embed_base::limits::MOST_MODULES;
+use embed_cmd::read_words;
 use std::alloc::Global;
 use std::process::Abort;
 use std::test::Fail;

@@ -1,5 +1,5 @@
-use crate::{ModuleFile, run_script};
 use embed_base::{PlainString, Status};
+use embed_script::{ModuleFile, run_script};
 use host_lexer::tokens;
 use host_parser::parse;
 use std::alloc::Global;

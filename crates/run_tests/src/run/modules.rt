@@ -1,6 +1,6 @@
 use super::{owned, told};
-use crate::run_main;
 use embed_base::{SureFiles, SureSink};
+use embed_cmd::run_main;
 use std::alloc::Global;
 use std::test::Fail;
 
