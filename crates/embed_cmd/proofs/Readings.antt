@@ -1,9 +1,9 @@
 -- The transcript of a script's bytes and of what is asked for, and that there is no other.
 use Rattle.std.proofs.Common.{◌≡◌, ℕ, List, [], ◌∷◌, refl, Option, Some, None, Result, Ok, Err, IfOk, IfSome, IsSome, IsSomeAnd, MatchOption, sym, ◌∙◌, subst, inl, inr}
 use Rattle.std.specs.declared.alloc.AllocError.{AllocError}
-use Rattle.host_parser.specs.declared.script.Script.{Script as Tree}
-use Rattle.host_parser.specs.Grammar.{Script}
-use Rattle.host_parser.specs.Shows.{ScriptShows}
+use Rattle.small_parser.specs.declared.script.Script.{Script as Tree}
+use Rattle.small_parser.specs.Grammar.{Script}
+use Rattle.small_parser.specs.Shows.{ScriptShows}
 use Rattle.embed_script.specs.declared.transcript.Transcript.{Transcript}
 use Rattle.embed_script.specs.Outcome.{outcome_of, transcript_of}
 use Rattle.embed_base.specs.Counts.{RoseByMore}

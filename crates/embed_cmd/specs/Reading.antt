@@ -1,8 +1,8 @@
 -- Private: what reading a script gives.
 use Rattle.std.specs.Prelude.{ℕ, List, Result, Err}
-use Rattle.host_parser.specs.declared.script.Script.{Script as Tree}
-use Rattle.host_parser.specs.Grammar.{Script}
-use Rattle.host_parser.specs.Shows.{ScriptShows}
+use Rattle.small_parser.specs.declared.script.Script.{Script as Tree}
+use Rattle.small_parser.specs.Grammar.{Script}
+use Rattle.small_parser.specs.Shows.{ScriptShows}
 use Rattle.embed_base.specs.declared.status.Status.{Status}
 use Rattle.embed_base.specs.declared.status.Status.TheVariants as statuses
 use Rattle.embed_script.specs.Outcome.{IsRunEnd}

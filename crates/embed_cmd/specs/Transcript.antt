@@ -2,9 +2,9 @@
 use Rattle.std.specs.Prelude.{◌≡◌, ℕ, ◌⊎◌, List, [], ◌∷◌, ◌++◌, length, map, Option, Some, None, IsSome, IsSomeAnd, MatchOption, Bool, false, nat_lt, codes, if◌then◌else◌}
 use Rattle.std.specs.Str.{IsUtf8}
 use Rattle.embed_base.specs.declared.status.Status.TheVariants as statuses
-use Rattle.host_lexer.specs.declared.token.Token.{Token}
-use Rattle.host_lexer.specs.Tokens.{HasTokens}
-use Rattle.host_parser.specs.Grammar.{Script, IsScript}
+use Rattle.small_lexer.specs.declared.token.Token.{Token}
+use Rattle.small_lexer.specs.Tokens.{HasTokens}
+use Rattle.small_parser.specs.Grammar.{Script, IsScript}
 use Rattle.wasm_grammar.specs.Decoding.{Decodes}
 use Rattle.embed_script.specs.Functions.{Modules}
 use Rattle.embed_script.specs.declared.transcript.Transcript.{Transcript}

@@ -8,7 +8,7 @@ use Rattle.embed_script.specs.Functions.{Function, type_parameters, own_paramete
 use Rattle.wasm_syntax.specs.declared.module.Module.{Module}
 use Rattle.wasm_syntax.specs.declared.module.Func.{Func}
 use Rattle.wasm_syntax.specs.declared.types.FuncType.{FuncType}
-use Rattle.wasm_machine.specs.Invocations.{TakesArguments}
+use Rattle.small_machine.specs.Invocations.{TakesArguments}
 use Rattle.embed_script.specs.Stops.{end_of, Ends}
 use Rattle.embed_script.specs.Words.{argument_of}
 

@@ -3,8 +3,8 @@ use Rattle.std.proofs.Common.{◌≡◌, ℕ, [], ◌∷◌, ◌++◌, Some, Non
 use Rattle.embed_base.specs.declared.status.Status.TheVariants as statuses
 use Rattle.embed_base.specs.declared.outside.OutsideKind.TheVariants as kinds
 use Rattle.embed_base.specs.declared.outside.Place.TheVariants as places
-use Rattle.host_parser.specs.declared.script.Operator.TheVariants as operators
-use Rattle.host_parser.specs.Grammar.{plus, minus, Sum, product, added, factor, times, number, text, name, parens, single, comma, none, listed, Script, nothing, declaration, binding, printing}
+use Rattle.small_parser.specs.declared.script.Operator.TheVariants as operators
+use Rattle.small_parser.specs.Grammar.{plus, minus, Sum, product, added, factor, times, number, text, name, parens, single, comma, none, listed, Script, nothing, declaration, binding, printing}
 use Rattle.embed_script.specs.declared.value.Value.TheVariants as values
 use Rattle.std.specs.Fmt.{decimal}
 use Rattle.embed_script.specs.Operators.{operate, text_of}

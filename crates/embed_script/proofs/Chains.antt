@@ -2,15 +2,15 @@
 use Rattle.std.proofs.Common.{◌≡◌, ℕ, suc, ◌+◌, ◌-◌, ◌<◌, ◌≤◌, List, [], ◌∷◌, ◌++◌, Option, Some, Ok, Err, IsSomeAnd, slice_get, length, map, reverse, take, drop, get_or, refl, sym, ap, ◌∙◌, subst, append_assoc, pos, arith}
 use Rattle.std.proofs.lemmas.List.{take_more, reverse-append, reverse-reverse, length-reverse, map-append}
 use Rattle.std.proofs.Math.Seq.{take-append_seam, drop-append_seam}
-use Rattle.host_parser.specs.declared.script.NodeId.{NodeId}
-use Rattle.host_parser.specs.declared.script.Operator.{Operator}
-use Rattle.host_parser.specs.declared.script.Operator.TheVariants as operators
-use Rattle.host_parser.specs.declared.script.Operand.{Operand}
-use Rattle.host_parser.specs.declared.script.Form.{Form}
-use Rattle.host_parser.specs.declared.script.Form.TheVariants as forms
-use Rattle.host_parser.specs.declared.script.Node.{Node}
-use Rattle.host_parser.specs.Grammar.{Additive, Sum, product, added, Product, factor, times, Factor, number, text, name, parens, call, Passed}
-use Rattle.host_parser.specs.Shows.{AtNode, IsNumber, IsText, IsName, IsChain, IsCall, AreBelow, operator_of, SumShows, SumLeft, ProductShows, ProductLeft, FactorShows, PassedShow, sum_place, product_place}
+use Rattle.small_parser.specs.declared.script.NodeId.{NodeId}
+use Rattle.small_parser.specs.declared.script.Operator.{Operator}
+use Rattle.small_parser.specs.declared.script.Operator.TheVariants as operators
+use Rattle.small_parser.specs.declared.script.Operand.{Operand}
+use Rattle.small_parser.specs.declared.script.Form.{Form}
+use Rattle.small_parser.specs.declared.script.Form.TheVariants as forms
+use Rattle.small_parser.specs.declared.script.Node.{Node}
+use Rattle.small_parser.specs.Grammar.{Additive, Sum, product, added, Product, factor, times, Factor, number, text, name, parens, call, Passed}
+use Rattle.small_parser.specs.Shows.{AtNode, IsNumber, IsText, IsName, IsChain, IsCall, AreBelow, operator_of, SumShows, SumLeft, ProductShows, ProductLeft, FactorShows, PassedShow, sum_place, product_place}
 use Rattle.embed_script.specs.declared.value.Value.{Value}
 use Rattle.embed_script.specs.declared.value.Value.TheVariants as values
 use Rattle.embed_script.specs.declared.evaluate.Task.{Task}

@@ -1,12 +1,12 @@
 -- What a statement does, read off the node that shows it.
 use Rattle.std.proofs.Common.{◌≡◌, ℕ, List, [], ◌∷◌, ◌++◌, IsSomeAnd, get_or, length, refl, sym, ap, ◌∙◌, subst}
 use Rattle.std.proofs.lemmas.Option.{slice_get_read}
-use Rattle.host_parser.specs.declared.script.NodeId.{NodeId}
-use Rattle.host_parser.specs.declared.script.Form.{Form}
-use Rattle.host_parser.specs.declared.script.Form.TheVariants as forms
-use Rattle.host_parser.specs.declared.script.Node.{Node}
-use Rattle.host_parser.specs.Grammar.{Sum}
-use Rattle.host_parser.specs.Shows.{SumShows}
+use Rattle.small_parser.specs.declared.script.NodeId.{NodeId}
+use Rattle.small_parser.specs.declared.script.Form.{Form}
+use Rattle.small_parser.specs.declared.script.Form.TheVariants as forms
+use Rattle.small_parser.specs.declared.script.Node.{Node}
+use Rattle.small_parser.specs.Grammar.{Sum}
+use Rattle.small_parser.specs.Shows.{SumShows}
 use Rattle.embed_script.specs.Ends.{charge}
 use Rattle.embed_script.specs.Functions.{Modules, instance_of}
 use Rattle.embed_script.specs.Evaluation.{Bindings, value, function, sum_value}

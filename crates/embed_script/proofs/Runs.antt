@@ -6,12 +6,12 @@ use Rattle.std.specs.HashMap as hash
 use Rattle.std.specs.Map.{lookup}
 use Rattle.std.specs.Option.{option_map}
 use Rattle.std.specs.Str.{bytes_eq}
-use Rattle.host_parser.specs.declared.script.NodeId.{NodeId}
-use Rattle.host_parser.specs.declared.script.Form.{Form}
-use Rattle.host_parser.specs.declared.script.Form.TheVariants as forms
-use Rattle.host_parser.specs.declared.script.Node.{Node}
-use Rattle.host_parser.specs.Grammar.{Arguments, Script, nothing, declaration, binding, printing}
-use Rattle.host_parser.specs.Shows.{IsPrint, ArgumentsShow, ScriptShows}
+use Rattle.small_parser.specs.declared.script.NodeId.{NodeId}
+use Rattle.small_parser.specs.declared.script.Form.{Form}
+use Rattle.small_parser.specs.declared.script.Form.TheVariants as forms
+use Rattle.small_parser.specs.declared.script.Node.{Node}
+use Rattle.small_parser.specs.Grammar.{Arguments, Script, nothing, declaration, binding, printing}
+use Rattle.small_parser.specs.Shows.{IsPrint, ArgumentsShow, ScriptShows}
 use Rattle.embed_script.specs.declared.run.Run.{Run}
 use Rattle.embed_script.specs.declared.stop.Stop.{Stop}
 use Rattle.embed_script.specs.Ends.{End, done}

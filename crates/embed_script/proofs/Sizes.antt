@@ -1,13 +1,13 @@
 -- The tasks of a chain or a call take less than it: an evaluation ends.
 use Rattle.std.proofs.Common.{◌≡◌, ℕ, zero, suc, ◌+◌, ◌-◌, ◌<◌, ◌≤◌, List, [], ◌∷◌, Option, Some, None, slice_get, sum_by, arith, subst, sym}
 use Rattle.std.proofs.lemmas.List.Sums.{sum_by-cons, sum_by-le-sum_by}
-use Rattle.host_parser.specs.declared.script.NodeId.{NodeId}
-use Rattle.host_parser.specs.declared.script.Operator.{Operator}
-use Rattle.host_parser.specs.declared.script.Operand.{Operand}
-use Rattle.host_parser.specs.declared.script.Form.{Form}
-use Rattle.host_parser.specs.declared.script.Form.TheVariants as forms
-use Rattle.host_parser.specs.declared.script.Node.{Node}
-use Rattle.host_parser.specs.Shows.{AreBelow}
+use Rattle.small_parser.specs.declared.script.NodeId.{NodeId}
+use Rattle.small_parser.specs.declared.script.Operator.{Operator}
+use Rattle.small_parser.specs.declared.script.Operand.{Operand}
+use Rattle.small_parser.specs.declared.script.Form.{Form}
+use Rattle.small_parser.specs.declared.script.Form.TheVariants as forms
+use Rattle.small_parser.specs.declared.script.Node.{Node}
+use Rattle.small_parser.specs.Shows.{AreBelow}
 use Rattle.embed_script.specs.declared.evaluate.Task.{Task}
 use Rattle.embed_script.specs.declared.evaluate.Task.TheVariants as tasks
 use Rattle.embed_script.specs.Tasks.{size_of, form_size, node_size, tasks_size, task_size, chain_tasks, following_tasks, call_tasks, AllBefore}

@@ -1,9 +1,9 @@
 -- The values of expressions, one after the other.
 use Rattle.std.proofs.Common.{◌≡◌, ℕ, suc, List, [], ◌∷◌, ◌++◌, Ok, Err, length, refl, sym, ap, ◌∙◌, subst}
-use Rattle.host_parser.specs.declared.script.NodeId.{NodeId}
-use Rattle.host_parser.specs.declared.script.Node.{Node}
-use Rattle.host_parser.specs.Grammar.{Sum, Listed, single, comma, Passed, unlisted, passed, passed_more, Arguments, none, listed}
-use Rattle.host_parser.specs.Shows.{ListedShows, PassedShow, ArgumentsShow}
+use Rattle.small_parser.specs.declared.script.NodeId.{NodeId}
+use Rattle.small_parser.specs.declared.script.Node.{Node}
+use Rattle.small_parser.specs.Grammar.{Sum, Listed, single, comma, Passed, unlisted, passed, passed_more, Arguments, none, listed}
+use Rattle.small_parser.specs.Shows.{ListedShows, PassedShow, ArgumentsShow}
 use Rattle.embed_script.specs.declared.value.Value.{Value}
 use Rattle.embed_script.specs.Ends.{and_then}
 use Rattle.embed_script.specs.Evaluation.{Bindings, Answer, Answers, sum_value, listed_values, passed_values, arguments_values}

@@ -2,10 +2,10 @@
 -- from left to right, each with what the one before it left of the budget, and the first end is the run's.
 use Rattle.std.specs.Prelude.{ℕ, List, [], ◌∷◌, ◌++◌, Option, Some, None, Result, Ok, Err, pos}
 use Rattle.embed_base.specs.declared.outside.OutsideKind.TheVariants as kinds
-use Rattle.host_parser.specs.declared.script.Operator.{Operator}
-use Rattle.host_parser.specs.declared.script.Operator.TheVariants as operators
-use Rattle.host_parser.specs.Grammar.{Sum, product, added, Product, factor, times, Factor, number, text, name, parens, call, Listed, single, comma, Passed, unlisted, passed, passed_more, Arguments, none, listed}
-use Rattle.host_parser.specs.Shows.{operator_of}
+use Rattle.small_parser.specs.declared.script.Operator.{Operator}
+use Rattle.small_parser.specs.declared.script.Operator.TheVariants as operators
+use Rattle.small_parser.specs.Grammar.{Sum, product, added, Product, factor, times, Factor, number, text, name, parens, call, Listed, single, comma, Passed, unlisted, passed, passed_more, Arguments, none, listed}
+use Rattle.small_parser.specs.Shows.{operator_of}
 use Rattle.embed_script.specs.declared.value.Value.{Value}
 use Rattle.embed_script.specs.declared.value.Value.TheVariants as values
 use Rattle.embed_script.specs.Ends.{End, outside, and_then, refused_at, at_place, keeping}

@@ -16,7 +16,7 @@ use Rattle.wasm_grammar.specs.declared.built.Foreign.{Foreign}
 use Rattle.wasm_grammar.specs.declared.built.Foreign.TheVariants as foreign
 use Rattle.wasm_grammar.specs.Decoding as decoding
 use Rattle.wasm_valid.specs.ModuleRules.{is_typed_module}
-use Rattle.wasm_machine.specs.Small.{is_small_form, small_result}
+use Rattle.small_machine.specs.Small.{is_small_form, small_result}
 use Rattle.embed_script.specs.declared.value.Value.{Value}
 use Rattle.embed_script.specs.declared.value.Value.TheVariants as values
 use Rattle.embed_script.specs.Ends.{End, outside, past_budget, compile_error, and_then, charge, at_place}

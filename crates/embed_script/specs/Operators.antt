@@ -2,8 +2,8 @@
 use Rattle.std.specs.Prelude.{ℕ, List, ◌++◌, length, ℤ, ◌+ℤ◌, ◌-ℤ◌, ◌*ℤ◌, Result, Ok, Err, nat_le, unsigned_abs, if◌then◌else◌}
 use Rattle.embed_base.specs.declared.outside.OutsideKind.{OutsideKind}
 use Rattle.embed_base.specs.declared.outside.OutsideKind.TheVariants as kinds
-use Rattle.host_parser.specs.declared.script.Operator.{Operator}
-use Rattle.host_parser.specs.declared.script.Operator.TheVariants as operators
+use Rattle.small_parser.specs.declared.script.Operator.{Operator}
+use Rattle.small_parser.specs.declared.script.Operator.TheVariants as operators
 use Rattle.embed_script.specs.declared.value.Value.{Value}
 use Rattle.embed_script.specs.declared.value.Value.TheVariants as values
 use Rattle.embed_script.specs.Values.{shown_of}

@@ -8,7 +8,7 @@ use Rattle.embed_base.specs.declared.status.Status.{Status}
 use Rattle.embed_base.specs.declared.status.Status.TheVariants as statuses
 use Rattle.embed_base.specs.declared.outside.Place.{Place}
 use Rattle.embed_base.specs.declared.outside.Place.TheVariants as places
-use Rattle.host_parser.specs.Grammar.{Sum, Arguments, Instance, Script, nothing, declaration, binding, printing}
+use Rattle.small_parser.specs.Grammar.{Sum, Arguments, Instance, Script, nothing, declaration, binding, printing}
 use Rattle.embed_script.specs.declared.value.Value.{Value}
 use Rattle.embed_script.specs.declared.transcript.Transcript.{Transcript}
 use Rattle.embed_script.specs.Values.{shown_of}

@@ -1,9 +1,9 @@
 -- How a run at work stands for the definition's run. No public clause cites this.
 use Rattle.std.specs.Prelude.{◌≡◌, ℕ, List, [], ◌∷◌, Result, Ok, Err, IfSome, IsSomeAnd, slice_get, string_bytes}
-use Rattle.host_parser.specs.declared.script.NodeId.{NodeId}
-use Rattle.host_parser.specs.declared.script.Form.{Form}
-use Rattle.host_parser.specs.declared.script.Node.{Node}
-use Rattle.host_parser.specs.Shows.{SumShows, IsLet, IsBind, IsPrint}
+use Rattle.small_parser.specs.declared.script.NodeId.{NodeId}
+use Rattle.small_parser.specs.declared.script.Form.{Form}
+use Rattle.small_parser.specs.declared.script.Node.{Node}
+use Rattle.small_parser.specs.Shows.{SumShows, IsLet, IsBind, IsPrint}
 use Rattle.embed_script.specs.declared.stop.Stop.{Stop}
 use Rattle.embed_script.specs.declared.run.Run.{Run}
 use Rattle.embed_script.specs.Ends.{End}

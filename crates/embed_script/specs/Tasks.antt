@@ -10,14 +10,14 @@ use Rattle.std.specs.declared.hash.BuildHasherDefault.{BuildHasherDefault}
 use Rattle.std.specs.HashMap.{HashMap, get_by_text}
 use Rattle.embed_base.specs.declared.outside.OutsideKind.{OutsideKind}
 use Rattle.embed_base.specs.declared.outside.OutsideKind.TheVariants as kinds
-use Rattle.host_parser.specs.declared.script.NodeId.{NodeId}
-use Rattle.host_parser.specs.declared.script.Operator.{Operator}
-use Rattle.host_parser.specs.declared.script.Operand.{Operand}
-use Rattle.host_parser.specs.declared.script.Form.{Form}
-use Rattle.host_parser.specs.declared.script.Form.TheVariants as forms
-use Rattle.host_parser.specs.declared.script.Node.{Node}
-use Rattle.host_parser.specs.Grammar.{Sum, Listed, single, comma, Passed, unlisted, passed, passed_more, Arguments, none, listed}
-use Rattle.host_parser.specs.Shows.{SumShows, IsCall}
+use Rattle.small_parser.specs.declared.script.NodeId.{NodeId}
+use Rattle.small_parser.specs.declared.script.Operator.{Operator}
+use Rattle.small_parser.specs.declared.script.Operand.{Operand}
+use Rattle.small_parser.specs.declared.script.Form.{Form}
+use Rattle.small_parser.specs.declared.script.Form.TheVariants as forms
+use Rattle.small_parser.specs.declared.script.Node.{Node}
+use Rattle.small_parser.specs.Grammar.{Sum, Listed, single, comma, Passed, unlisted, passed, passed_more, Arguments, none, listed}
+use Rattle.small_parser.specs.Shows.{SumShows, IsCall}
 use Rattle.embed_script.specs.declared.value.Value.{Value}
 use Rattle.embed_script.specs.declared.stop.Stop.{Stop}
 use Rattle.embed_script.specs.declared.evaluate.Task.{Task}

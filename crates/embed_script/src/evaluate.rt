@@ -1,7 +1,7 @@
 ghost use Rattle.std.specs.Prelude.{◌≡◌, ℕ, suc, ◌+◌, ◌<◌, ◌≤◌, List, [], ◌∷◌, ◌++◌, length, slice_get, Some, Result, Ok, OnOk, IsSomeAnd, pos};
-ghost use Rattle.host_parser.specs.declared.script.Node.{Node};
-ghost use Rattle.host_parser.specs.Grammar.{Sum};
-ghost use Rattle.host_parser.specs.Shows.{SumShows, IsCall};
+ghost use Rattle.small_parser.specs.declared.script.Node.{Node};
+ghost use Rattle.small_parser.specs.Grammar.{Sum};
+ghost use Rattle.small_parser.specs.Shows.{SumShows, IsCall};
 ghost use Rattle.embed_script.specs.declared.value.Value.TheVariants as values;
 ghost use Rattle.embed_script.specs.Operators.{number_of};
 ghost use Rattle.embed_script.specs.Ends.{End, and_then, at_place, keeping};
@@ -13,7 +13,7 @@ use crate::operators::{number, operate};
 use crate::stop::{Stop, refuse};
 use crate::value::{Bound, Value};
 use embed_base::{OutsideKind, PlainString, SharedString};
-use host_parser::{Form, Node, NodeId, Operand, Operator};
+use small_parser::{Form, Node, NodeId, Operand, Operator};
 use std::alloc::{AllocError, Global};
 use std::collections::HashMap;
 

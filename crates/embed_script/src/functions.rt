@@ -5,8 +5,8 @@ use crate::charge::{CALL, charge};
 use crate::convert::words;
 use crate::stop::Stop;
 use crate::value::Value;
+use small_machine::run_small;
 use std::alloc::Global;
-use wasm_machine::run_small;
 use wasm_valid::ValidModule;
 
 /// A function of a module: the module is of the small form, and has a function of this number.

@@ -10,9 +10,9 @@ use crate::functions::Exported;
 use crate::module_file::ModuleFile;
 use crate::stop::{Stop, refuse};
 use embed_base::{Outside, OutsideKind, Place};
+use small_machine::small;
 use std::alloc::Global;
 use wasm_grammar::{DecodeError, Foreign, decode};
-use wasm_machine::small;
 use wasm_syntax::{Export, ExportDesc, Module};
 use wasm_valid::{Invalid, ValidModule, validate};
 

@@ -10,7 +10,7 @@ use crate::stop::{Stop, refuse};
 use crate::value::Value;
 use embed_base::limits::{GREATEST_NUMBER, MOST_TEXT_BYTES};
 use embed_base::{OutsideKind, SharedString};
-use host_parser::Operator;
+use small_parser::Operator;
 use std::alloc::Global;
 
 /// A result of whole numbers as a Number; none is one beyond 64 bits.

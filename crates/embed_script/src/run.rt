@@ -1,6 +1,6 @@
 ghost use Rattle.std.specs.Prelude.{◌≡◌, ℕ, List, ◌∷◌, ◌++◌, [], Ok, Err, OnOk, IfOk, string_bytes};
-ghost use Rattle.host_parser.specs.Grammar as grammar;
-ghost use Rattle.host_parser.specs.Shows.{SumShows, ScriptShows};
+ghost use Rattle.small_parser.specs.Grammar as grammar;
+ghost use Rattle.small_parser.specs.Shows.{SumShows, ScriptShows};
 ghost use Rattle.embed_script.specs.Ends.{done, charge};
 ghost use Rattle.embed_script.specs.Functions.{Modules, instance_of};
 ghost use Rattle.embed_script.specs.Evaluation.{Bindings, value, function, sum_value};
@@ -19,7 +19,7 @@ use crate::stop::Stop;
 use crate::transcript::Transcript;
 use crate::value::{Bound, Value};
 use embed_base::{PlainString, Status};
-use host_parser::{Form, Node, NodeId, Script};
+use small_parser::{Form, Node, NodeId, Script};
 use std::alloc::{AllocError, Global};
 use std::collections::HashMap;
 

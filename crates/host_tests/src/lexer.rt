@@ -1,4 +1,4 @@
-use host_lexer::{LexError, Token, TokenKind, tokens};
+use small_lexer::{LexError, Token, TokenKind, tokens};
 use std::alloc::Global;
 use std::process::Abort;
 use std::test::Fail;

@@ -1,6 +1,6 @@
 use embed_base::PlainString;
-use host_lexer::{Mark, Token, TokenKind, Word};
-use host_parser::{Form, Node, NodeId, Operator, ParseError, Script, parse};
+use small_lexer::{Mark, Token, TokenKind, Word};
+use small_parser::{Form, Node, NodeId, Operator, ParseError, Script, parse};
 use std::alloc::{AllocError, Global};
 use std::test::Fail;
 

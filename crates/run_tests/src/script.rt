@@ -1,7 +1,7 @@
 use embed_base::{PlainString, Status};
 use embed_script::{ModuleFile, run_script};
-use host_lexer::tokens;
-use host_parser::parse;
+use small_lexer::tokens;
+use small_parser::parse;
 use std::alloc::Global;
 use std::test::Fail;
 

@@ -1,9 +1,9 @@
 //! Which modules are of the first form.
 
+use small_machine::small;
 use sqlite_items::Items;
 use std::alloc::Global;
 use std::test::Fail;
-use wasm_machine::small;
 use wasm_syntax::{BlockId, Func, FuncType, Instr, Module, ValType};
 
 fn one_type(alloc: Global, results: u32) -> Result<Items<FuncType>, Fail> {

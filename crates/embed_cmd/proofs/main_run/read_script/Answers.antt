@@ -1,8 +1,8 @@
 use Rattle.std.proofs.Common.{◌≡◌, ◌∙◌, sym, subst}
-use Rattle.host_lexer.specs.declared.token.LexError.TheVariants as lexing
-use Rattle.host_lexer.specs.Tokens.{HasTokens}
-use Rattle.host_parser.specs.declared.script.ParseError.TheVariants as parsing
-use Rattle.host_parser.specs.Grammar.{IsScript}
+use Rattle.small_lexer.specs.declared.token.LexError.TheVariants as lexing
+use Rattle.small_lexer.specs.Tokens.{HasTokens}
+use Rattle.small_parser.specs.declared.script.ParseError.TheVariants as parsing
+use Rattle.small_parser.specs.Grammar.{IsScript}
 use Rattle.embed_cmd.proofs.main_run.read_script.Goals as goal
 
 pub returns-in-Err-NotYet : goal.returns-in-Err-NotYet

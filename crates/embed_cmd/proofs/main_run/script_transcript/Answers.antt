@@ -1,5 +1,5 @@
 use Rattle.std.proofs.Common.{MatchOption, subst}
-use Rattle.host_parser.specs.Grammar.{Script}
+use Rattle.small_parser.specs.Grammar.{Script}
 use Rattle.embed_cmd.specs.Transcript.{IsScriptText}
 use Rattle.embed_cmd.specs.Reading.{IsTree}
 use Rattle.embed_cmd.proofs.Readings.{refused_bytes, ran_bytes}

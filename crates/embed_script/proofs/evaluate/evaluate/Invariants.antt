@@ -1,6 +1,6 @@
 -- What is left to do gives the expression's value.
-use Rattle.host_parser.specs.Grammar.{Sum}
-use Rattle.host_parser.specs.Shows.{SumShows}
+use Rattle.small_parser.specs.Grammar.{Sum}
+use Rattle.small_parser.specs.Shows.{SumShows}
 use Rattle.embed_script.specs.Evaluation.{Bindings, sum_value}
 use Rattle.embed_script.specs.Tasks.{IsBoundAs, Continues, top_first, tasks_size}
 use Rattle.embed_script.proofs.evaluate.evaluate.Given as goal

@@ -1,5 +1,5 @@
 use Rattle.std.proofs.Common.{◌-◌, ◌∙◌, arith}
-use Rattle.host_parser.specs.declared.script.Operator.TheVariants as operators
+use Rattle.small_parser.specs.declared.script.Operator.TheVariants as operators
 use Rattle.embed_script.proofs.Chains.{pushed}
 use Rattle.embed_script.proofs.evaluate.push_chain.Goals as goal
 

@@ -1,6 +1,6 @@
 -- The values so far, and the expressions that are left.
 use Rattle.std.proofs.Common.{List, drop}
-use Rattle.host_parser.specs.Grammar.{Sum}
+use Rattle.small_parser.specs.Grammar.{Sum}
 use Rattle.embed_script.specs.Evaluation.{Bindings}
 use Rattle.embed_script.specs.Tasks.{IsBoundAs, SumsShow, values_of}
 use Rattle.embed_script.proofs.Lines.{ValuesLeft}

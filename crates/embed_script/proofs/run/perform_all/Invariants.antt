@@ -1,7 +1,7 @@
 -- The statements that are left, and the run so far.
 use Rattle.std.proofs.Common.{drop}
-use Rattle.host_parser.specs.Grammar.{Script}
-use Rattle.host_parser.specs.Shows.{ScriptShows}
+use Rattle.small_parser.specs.Grammar.{Script}
+use Rattle.small_parser.specs.Shows.{ScriptShows}
 use Rattle.embed_script.specs.Functions.{Modules}
 use Rattle.embed_script.specs.ModuleFiles.{AreDecodings}
 use Rattle.embed_script.proofs.Runs.{StatementsLeft, RunLeft}

@@ -1,5 +1,5 @@
 use Rattle.std.proofs.Common.{subst, sym}
-use Rattle.host_parser.specs.Shows.{ScriptShows}
+use Rattle.small_parser.specs.Shows.{ScriptShows}
 use Rattle.embed_script.proofs.run.run_script.Goals as goal
 
 pub returns-clause-exact : goal.returns-clause-exact

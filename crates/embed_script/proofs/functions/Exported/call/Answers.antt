@@ -1,5 +1,5 @@
 use Rattle.std.proofs.Common.{◌∙◌, ap, sym, subst, length}
-use Rattle.wasm_machine.specs.Invocations.{TakesArguments}
+use Rattle.small_machine.specs.Invocations.{TakesArguments}
 use Rattle.embed_script.specs.Tasks.{function_of}
 use Rattle.embed_script.proofs.Arguments.{placed_count, takes}
 use Rattle.embed_script.proofs.functions.Exported.call.Goals as goal

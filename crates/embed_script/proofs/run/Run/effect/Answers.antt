@@ -1,5 +1,5 @@
 use Rattle.std.proofs.Common.{subst, sym}
-use Rattle.host_parser.specs.declared.script.Form.TheVariants as forms
+use Rattle.small_parser.specs.declared.script.Form.TheVariants as forms
 use Rattle.embed_script.specs.Runs.{Performs}
 use Rattle.embed_script.specs.Tasks.{SumsShow}
 use Rattle.embed_script.proofs.Effects.{statement_at, effect_declares, effect_binds, effect_prints}

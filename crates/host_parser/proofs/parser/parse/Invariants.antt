@@ -1,7 +1,0 @@
-use Rattle.std.proofs.Common.{take}
-use Rattle.host_parser.proofs.Main.{Leads}
-use Rattle.host_parser.proofs.parser.parse.Given as goal
-
--- the tokens so far lead to a state, which the reader shows
-abbrev pub invariant-loop-token : goal.invariant-loop-token
-invariant-loop-token l = Leads (take l.token-index l.tokens) l.reader
