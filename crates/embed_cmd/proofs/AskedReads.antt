@@ -1,7 +1,6 @@
 -- Files that are read one after the other, up to the first that is too long.
 use Rattle.std.proofs.Common.{◌≡◌, ℕ, zero, suc, ◌+◌, ◌<◌, ◌≤◌, List, [], ◌∷◌, ◌++◌, Bool, take, Option, Some, None, Err, MatchOption, true, false, length, drop, get_or, refl, sym, ap, ◌∙◌, subst, inl, inr, arith, cond}
 use Rattle.std.proofs.lemmas.List.{drop_more, take_more}
-use Rattle.std.proofs.Math.Seq.{drop-length}
 use Rattle.embed_base.specs.Counts.{RoseByMore}
 use Rattle.embed_cmd.specs.Headline.{AreThere}
 use Rattle.embed_cmd.specs.declared.asked_files.Unread.{Unread}
@@ -69,11 +68,6 @@ pub failed_in_modules : (stop : Unread) (failed : Option (List ℕ)) (modules : 
 failed_in_modules (unread.TooLong path) failed modules i d asked within is h = tt
 failed_in_modules unread.Failed failed modules i d asked within is h = of_module (λ file. failed ≡ Some file.path) modules i d within (h ∙ ap (λ p. Some p) is)
 failed_in_modules unread.NoMemory failed modules i d asked within is h = tt
-
--- no module is left
-pub none_long : (contents : Contents) (modules : List Module) (i : ℕ) → i ≡ length modules
-    → first_long contents (module_files modules) ≡ first_long contents (module_files (drop i modules)) → first_long contents (module_files modules) ≡ None
-none_long contents modules i at_end so_far = so_far ∙ ap (λ ms. first_long contents (module_files ms)) (ap (λ j. drop j modules) at_end ∙ drop-length modules)
 
 -- the script's file comes first
 pub script_first : (contents : Contents) (asked : Asked) (rest : Option (List ℕ)) → is_longer most_script_bytes (contents asked.script) ≡ false → first_long contents (module_files asked.modules) ≡ rest → first_long contents (files_of asked) ≡ rest

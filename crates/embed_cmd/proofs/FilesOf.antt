@@ -1,7 +1,6 @@
 -- The files of modules, and what they decode to.
 use Rattle.std.proofs.Common.{◌≡◌, ℕ, ◌+◌, ◌<◌, List, [], ◌∷◌, ◌++◌, Option, Some, None, IfSome, IsSome, IsSomeAnd, length, take, get_or, refl, sym, ap, ◌∙◌, subst, inl, inr}
 use Rattle.std.proofs.lemmas.List.{take_more}
-use Rattle.std.proofs.Math.Seq.{take-length}
 use Rattle.wasm_grammar.specs.Decoding.{Decoded, Decodes}
 use Rattle.embed_script.specs.declared.module_file.ModuleFile.{ModuleFile}
 use Rattle.embed_script.specs.Functions.{Modules}
@@ -28,16 +27,6 @@ next_file contents now modules i m old new f name path within is h same name_is 
     let here = subst (λ p. IfSome (contents p) (λ told. f.bytes.items ≡ told)) path_is (subst (λ o. IfSome o (λ told. f.bytes.items ≡ told)) (same path) bytes) in
     let both = files_more contents (take i modules) old m f h (named ∙ name_is) here in
     subst (λ ms. AreFilesOf contents ms new) (sym taken) (subst (λ fs. AreFilesOf contents (take i modules ++ m ∷ []) fs) (sym grown) both)
-
-pub all_files : (contents : Contents) (modules : List Named) (i : ℕ) (files : List ModuleFile) → i ≡ length modules → AreFilesOf contents (take i modules) files → AreFilesOf contents modules files
-all_files contents modules i files at_end h = subst (λ ms. AreFilesOf contents ms files) (ap (λ j. take j modules) at_end ∙ take-length modules) h
-
--- the same, of contents that are the same
-pub files_same : (contents now : Contents) (ms : List Named) (fs : List ModuleFile) → ((p : List ℕ) → now p ≡ contents p) → AreFilesOf now ms fs → AreFilesOf contents ms fs
-files_same contents now [] [] same h = tt
-files_same contents now (m ∷ ms) (f ∷ fs) same h = (h.0, subst (λ o. IfSome o (λ told. f.bytes.items ≡ told)) (same m.1) h.1, files_same contents now ms fs same h.2)
-files_same contents now [] (f ∷ fs) same h = absurd h
-files_same contents now (m ∷ ms) [] same h = absurd h
 
 told_there : (o : Option (List ℕ)) (bytes : List ℕ) (d : Decoded) → IsSome o → IfSome o (λ told. bytes ≡ told) → Decodes bytes d → IsSomeAnd o (λ b. Decodes b d)
 told_there None bytes d some is h = absurd (cc)

@@ -149,7 +149,3 @@ too_long (Some ms) n h f =
 -- more values than modules may be
 pub too_many : (all : List (List ℕ)) → 64 < length all → None ≡ modules_of all
 too_many all h = sym (too_long (all_of (map module_of all)) (length all) h (λ ms is. all_count (map module_of all) ms is ∙ simp length-map))
-
--- no value is read yet
-pub modules_begun : (all : List (List ℕ)) → ModulesLeft all all []
-modules_begun all = record { gives = refl; differ = refl; count = omega arith }

@@ -1,3 +1,2 @@
-mod Left
 mod Collected
 mod LawLemmas

@@ -69,10 +69,6 @@ settle p how v ps = option_map_or (λ state. settle_from p how v state ps) (slic
 
 -- ---- resolving functions
 
--- CreateResolvingFunctions (27.2.1.3): a new pair of a promise, which hasn't acted
-abbrev pub with_pair : ℕ → HostPromises → HostPromises
-with_pair p ps = record ps { pairs = ps.pairs ++ record { promise = p; acted = false } ∷ [] }
-
 -- the pair has acted (its alreadyResolved is true)
 abbrev pub act : ℕ → Pair → HostPromises → HostPromises
 act k pair ps = record ps { pairs = slice_set ps.pairs k (record pair { acted = true }) }

@@ -2,7 +2,7 @@
 use Rattle.std.proofs.Common.{◌≡◌, ℕ, suc, ◌-◌, ◌^◌, ◌<◌, Bool, true, false, cond, ltb, refl, arith}
 use Rattle.std.proofs.Math.IntN.{ℤ, pos, negsuc, ◌-ℤ◌}
 use Rattle.std.proofs.lemmas.Int.{ints}
-use Rattle.std.specs.Int.{w8, w16, w32, w64, cast_signed, cast_unsigned}
+use Rattle.std.specs.Int.{w32, w64, cast_signed, cast_unsigned}
 use mir.Val.{sel}
 use Rattle.wasm_num.specs.Integers.{signed, unsigned}
 
@@ -14,12 +14,6 @@ pub signed_is : (N n : ℕ) → n < 2 ^ N → signed N n ≡ sel (ltb n (2 ^ (N 
 signed_is N n h =
     let below : pos n -ℤ pos (2 ^ N) ≡ negsuc (2 ^ N - suc n) = omega (arith, ints) in
     same_test (ltb n (2 ^ (N - 1))) (pos n) (pos n -ℤ pos (2 ^ N)) (negsuc (2 ^ N - suc n)) below
-
-pub signed_8 : (n : ℕ) → n < 2 ^ 8 → signed 8 n ≡ cast_signed w8 n
-signed_8 n h = signed_is 8 n h
-
-pub signed_16 : (n : ℕ) → n < 2 ^ 16 → signed 16 n ≡ cast_signed w16 n
-signed_16 n h = signed_is 16 n h
 
 pub signed_32 : (n : ℕ) → n < 2 ^ 32 → signed 32 n ≡ cast_signed w32 n
 signed_32 n h = signed_is 32 n h

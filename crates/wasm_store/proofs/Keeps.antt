@@ -25,7 +25,7 @@ use Rattle.wasm_store.specs.declared.instances.FuncInst.TheVariants as f
 use Rattle.wasm_store.specs.declared.instances.Instance.{Instance}
 use Rattle.wasm_store.specs.declared.instances.GlobalInst.{GlobalInst}
 use Rattle.wasm_store.specs.Store as st
-use Rattle.wasm_store.specs.Store.{Store, TableInst, module_at, instance_at, function_at, table_at, global_at, element_at, type_of}
+use Rattle.wasm_store.specs.Store.{Store, TableInst, module_at, instance_at, function_at, element_at, type_of}
 use Rattle.wasm_store.specs.Whole.{IsWhole, IsLater, IsLive, HasType, AreTyped, AreLive, IsFunction, IsInstance, IsTable, IsGlobal, IsBlank, HasLists, InstanceStays, SegmentStays, own_type}
 use Rattle.wasm_store.specs.Whole.{HasFunction, HasTable, HasMemory, HasGlobal, HasElement, HasData}
 use Rattle.wasm_store.proofs.Later as later
@@ -156,15 +156,6 @@ kept s t whole l = record {
 }
 
 -- Each change.
-
-pub whole_empty : IsWhole st.empty_store
-whole_empty = record {
-  functions = All-nil (IsFunction st.empty_store);
-  instances = All-nil (IsInstance st.empty_store);
-  tables = All-nil (IsTable st.empty_store);
-  globals = All-nil (IsGlobal st.empty_store);
-  elements = All-nil (AreLive st.empty_store);
-}
 
 pub whole_module : (m : Module) (s : Store) → IsWhole s → IsWhole (st.with_module m s)
 whole_module m s whole = let k = kept s (st.with_module m s) whole (later.later_module m s) in

@@ -1,5 +1,5 @@
 -- Lists of which each pair is as a relation says.
-use Rattle.std.proofs.Common.{◌≡◌, ℕ, List, [], ◌∷◌, ◌++◌, length, refl, ap, subst}
+use Rattle.std.proofs.Common.{◌≡◌, ℕ, List, [], ◌∷◌, ◌++◌, refl, ap, subst}
 use Rattle.std.specs.Prelude.{Some, None, slice_get, zero, suc}
 use Rattle.std.specs.List.{AllZip}
 
@@ -14,12 +14,6 @@ zip_append R [] [] us vs h k = k
 zip_append R [] (y ∷ ys) us vs h k = absurd h
 zip_append R (x ∷ xs) [] us vs h k = absurd h
 zip_append R (x ∷ xs) (y ∷ ys) us vs h k = (h.0, zip_append R xs ys us vs h.1 k)
-
-pub zip_length : {A B : Type 0} (R : A → B → Type 0) → (xs : List A) (ys : List B) → AllZip R xs ys → length xs ≡ length ys
-zip_length R [] [] h = refl
-zip_length R [] (y ∷ ys) h = absurd h
-zip_length R (x ∷ xs) [] h = absurd h
-zip_length R (x ∷ xs) (y ∷ ys) h = ap suc (zip_length R xs ys h.1)
 
 -- the thing at a place of the right list has its partner at that place of the left one
 pub zip_at : {A B : Type 0} (R : A → B → Type 0) → (xs : List A) (ys : List B) (k : ℕ) (y : B) → AllZip R xs ys → slice_get ys k ≡ Some y → (x : A) × (slice_get xs k ≡ Some x) × R x y

@@ -122,15 +122,6 @@ pending_first m ids e = record {
   counts = sym (ap (counts_to (length m.blocks) 0) (ends-at_depth m (suc (length m.blocks)) ids ∙ ap (flat_map (ends_in m (suc (length m.blocks)))) e));
 }
 
--- nothing is to come although blocks are left
-pub none_pending : (m : Module) (left : ℕ) (ids : List BlockId) → 0 < left → Pending m left ids → ids ≡ [] → is_numbered m ≡ false
-none_pending m left ids h p e =
-    p.counts ∙ ap (λ qs. counts_to left 0 (ends_of m qs)) (no_blocks p.blocks (p.ids_are ∙ e)) ∙ ne_eqb 0 left (λ z. omega arith)
-  where
-    no_blocks : (qs : List Deep) → ids_of qs ≡ [] → qs ≡ []
-    no_blocks [] e = refl
-    no_blocks (q ∷ qs) e = cc
-
 -- the last one to come ends last, and its own blocks before it
 module _ (m : Module) (left : ℕ) (ids rest : List BlockId) (id : BlockId) (some_left : 0 < left) (p : Pending m left ids) (e : ids ≡ rest ++ id ∷ []) where
   abbrev parts : Ends p.blocks rest id

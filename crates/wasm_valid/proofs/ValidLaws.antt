@@ -1,8 +1,8 @@
 -- Laws of validation.
-use Rattle.std.proofs.Common.{◌≡◌, ℕ, zero, suc, option_map, refl, ◌+◌, ◌<◌, ◌≤◌, Bool, true, false, ◌&&◌, List, [], ◌∷◌, ◌++◌, Option, Some, None, length, take, drop, map, get_or, sym, ◌∙◌, ap, subst, arith, nat_le, if◌then◌else◌}
+use Rattle.std.proofs.Common.{◌≡◌, ℕ, zero, suc, option_map, refl, ◌+◌, ◌<◌, Bool, true, false, ◌&&◌, List, [], ◌∷◌, ◌++◌, Option, Some, None, length, drop, map, get_or, sym, ◌∙◌, ap, subst, arith, nat_le, if◌then◌else◌}
 use Rattle.std.specs.Prelude.{slice_get, is_some, IfSome, replicate, flat_map}
 use Rattle.std.specs.List.{list_all}
-use Rattle.std.proofs.lemmas.List.{drop_more, drop_all, map_more, take_all as take_whole}
+use Rattle.std.proofs.lemmas.List.{drop_more}
 use Rattle.wasm_syntax.specs.declared.types.ValType.{ValType}
 use Rattle.wasm_syntax.specs.declared.types.FuncType.{FuncType}
 use Rattle.wasm_syntax.specs.declared.module.Func.{Func}
@@ -38,30 +38,6 @@ first_found m fs i f h e untyped first all =
       first ∙ ap (first_untyped m i) more ∙ ap (λ b. if b then first_untyped m (suc i) (drop (i + 1) fs) else Some i) untyped,
       all ∙ ap (list_all (is_typed_body m)) more ∙ ap (λ b. b && list_all (is_typed_body m) (drop (i + 1) fs)) untyped,
     )
-
-pub first_on : (m : Module) (fs : List Func) (i : ℕ) (f : Func) → i < length fs → f ≡ get_or fs i f → is_typed_body m f ≡ true
-    → first_untyped m 0 fs ≡ first_untyped m i (drop i fs) → first_untyped m 0 fs ≡ first_untyped m (i + 1) (drop (i + 1) fs)
-first_on m fs i f h e typed first =
-    let more : drop i fs ≡ f ∷ drop (i + 1) fs = drop_more fs i f h ∙ ap (λ (x : Func). x ∷ drop (i + 1) fs) (sym e) in
-    let next : suc i ≡ i + 1 = omega arith in
-    first ∙ ap (first_untyped m i) more ∙ ap (λ b. if b then first_untyped m (suc i) (drop (i + 1) fs) else Some i) typed ∙ ap (λ k. first_untyped m k (drop (i + 1) fs)) next
-
-pub all_on : (m : Module) (fs : List Func) (i : ℕ) (f : Func) → i < length fs → f ≡ get_or fs i f → is_typed_body m f ≡ true
-    → list_all (is_typed_body m) fs ≡ list_all (is_typed_body m) (drop i fs) → list_all (is_typed_body m) fs ≡ list_all (is_typed_body m) (drop (i + 1) fs)
-all_on m fs i f h e typed all =
-    let more : drop i fs ≡ f ∷ drop (i + 1) fs = drop_more fs i f h ∙ ap (λ (x : Func). x ∷ drop (i + 1) fs) (sym e) in
-    all ∙ ap (list_all (is_typed_body m)) more ∙ ap (λ b. b && list_all (is_typed_body m) (drop (i + 1) fs)) typed
-
-pub heights_on : (m : Module) (fs : List Func) (i : ℕ) (f : Func) (old new : List ℕ) (h : ℕ) → i < length fs → f ≡ get_or fs i f → h ≡ body_height m f
-    → old ≡ map (body_height m) (take i fs) → new ≡ old ++ h ∷ [] → new ≡ map (body_height m) (take (i + 1) fs)
-heights_on m fs i f old new h lt e k o n =
-    n ∙ ap (λ (xs : List ℕ). xs ++ h ∷ []) o ∙ ap (λ (x : ℕ). map (body_height m) (take i fs) ++ x ∷ []) (k ∙ ap (body_height m) e) ∙ sym (map_more (body_height m) fs i f lt)
-
-pub all_bodies : (m : Module) (fs : List Func) (i : ℕ) (heights : List ℕ) → length fs ≤ i
-    → list_all (is_typed_body m) fs ≡ list_all (is_typed_body m) (drop i fs) → heights ≡ map (body_height m) (take i fs)
-    → (list_all (is_typed_body m) fs ≡ true) × (heights ≡ map (body_height m) fs)
-all_bodies m fs i heights h all hs =
-    (all ∙ ap (list_all (is_typed_body m)) (drop_all i fs h), hs ∙ ap (map (body_height m)) (take_whole i fs h))
 
 -- Modules.
 
