@@ -112,13 +112,28 @@ fn growth_keeps_the_bytes_and_appends_zeros(rt: HostRuntime) -> Result<(), Fail>
     let mut memory = RawMem::new(rt.alloc(), 1)?;
     assert!(rt; memory.write(PAGE - 4, b"last"));
     assert!(rt; memory.len() == PAGE);
-    memory.grow(rt.alloc(), 0)?;
+    memory.grow(0)?;
     assert!(rt; memory.len() == PAGE);
     check_bytes(&rt, &memory, PAGE - 5, b"\0last");
-    memory.grow(rt.alloc(), 2)?;
+    memory.grow(2)?;
     assert!(rt; memory.len() == 3 * PAGE);
     check_bytes(&rt, &memory, PAGE - 5, b"\0last\0\0");
     check_bytes(&rt, &memory, 3 * PAGE - 2, b"\0\0");
+    Ok(())
+}
+
+#[test]
+fn a_memory_grows_page_by_page_to_its_end(rt: HostRuntime) -> Result<(), Fail> {
+    let mut memory = RawMem::new(rt.alloc(), 0)?;
+    for pages in 0..1024 {
+        memory.grow(1)?;
+        assert!(rt; memory.len() == (pages + 1) * PAGE);
+        assert!(rt; memory.store(pages * PAGE, 8, pages));
+    }
+    for page in 0..1024 {
+        assert!(rt; memory.load(page * PAGE, 8) == Some(page));
+        assert!(rt; memory.load(page * PAGE + PAGE - 8, 8) == Some(0));
+    }
     Ok(())
 }
 
@@ -132,7 +147,7 @@ fn a_memory_may_have_no_pages(rt: HostRuntime) -> Result<(), Fail> {
     assert!(rt; !memory.fill(0, 1, 1));
     assert!(rt; memory.write(0, b""));
     assert!(rt; memory.copy_within(0, 0, 0));
-    memory.grow(rt.alloc(), 1)?;
+    memory.grow(1)?;
     assert!(rt; memory.len() == PAGE);
     check_bytes(&rt, &memory, PAGE - 1, b"\0");
     Ok(())

@@ -1,5 +1,4 @@
 pub mod Blocks
-pub mod Growth
 pub mod Numbers
 pub mod Reading
 pub mod Steps

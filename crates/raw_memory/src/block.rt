@@ -1,7 +1,7 @@
-//! The edge of the crate: the five functions that touch pointers, and the three values that say what
+//! The edge of the crate: the six functions that touch pointers, and the three values that say what
 //! they may do. Each of the three owns a part of one block: where it begins, its bytes, and the right
 //! to give it back.
-ghost use Rattle.std.specs.Prelude.{◌≡◌, ℕ, ◌+◌, ◌<◌, ◌^◌, List, [], ◌∷◌, ◌++◌, length, IfOk};
+ghost use Rattle.std.specs.Prelude.{◌≡◌, ℕ, ◌+◌, ◌<◌, ◌≤◌, ◌^◌, List, [], ◌∷◌, ◌++◌, length, IfOk, MatchResult};
 ghost use Rattle.std.specs.Borrow.{sem};
 ghost use base.Fml.{ftrue};
 ghost use denote.RawPtr.{Ptr};
@@ -60,6 +60,27 @@ pub(crate) fn take_block<A: Allocator>(
             BlockBytes { mark: PhantomData },
             FreeRight { mark: PhantomData },
         )),
+        Err(error) => Err(error),
+    }
+}
+
+/// Makes a block larger, of which every byte is written: they stand in the new one, and behind them is room. The new block may
+/// begin somewhere else. Where there is no memory for it, the block is as it was.
+pub(crate) fn grow_block<A: Allocator>(
+    alloc: &A,
+    start: BlockStart,
+    len: usize,
+    new_len: usize,
+    contents: &mut BlockBytes,
+    right: &mut FreeRight<A>,
+) -> Result<BlockStart, AllocError>
+    requires { (len ≤ new_len) × (new_len < 2 ^ 63) × (contents.old.at ≡ start.ptr) × (length contents.old.bytes ≡ len)
+        × (right.old.at ≡ start.ptr) × (right.old.len ≡ len) × (right.old.alloc ≡ alloc.now) }
+    ensures { MatchResult result (λ r. (contents.new.at ≡ r.ptr) × (contents.new.bytes ≡ contents.old.bytes) × (contents.new.spare + len ≡ new_len)
+        × (right.new.at ≡ r.ptr) × (right.new.len ≡ new_len) × (right.new.alloc ≡ alloc.now)) (λ _. (contents.new ≡ contents.old) × (right.new ≡ right.old)) }
+{
+    match unsafe { alloc.grow(start.ptr, len, len, new_len) } {
+        Ok(ptr) => Ok(BlockStart { ptr }),
         Err(error) => Err(error),
     }
 }

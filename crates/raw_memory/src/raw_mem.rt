@@ -1,8 +1,8 @@
 //! A linear memory as a list of bytes. All of it is safe code over the edge in `block`.
-ghost use Rattle.std.specs.Prelude.{◌≡◌, ◌+◌, ◌<◌, ◌≤◌, ◌^◌, [], length, replicate};
+ghost use Rattle.std.specs.Prelude.{◌≡◌, ◌+◌, ◌-◌, ◌<◌, ◌≤◌, ◌^◌, ◌++◌, length, replicate};
 ghost use Rattle.raw_memory.specs.Bytes.{zeros, run, replaced, IsWidth, number, low_bytes};
 
-use crate::block::{BlockBytes, BlockStart, FreeRight, free_block, take_block};
+use crate::block::{BlockBytes, BlockStart, FreeRight, free_block, grow_block, take_block};
 use std::alloc::{AllocError, Global};
 use std::marker::Model;
 use std::mem;
@@ -70,7 +70,7 @@ impl RawMem {
         ensures { IfOk result (λ m. m ≡ zeros len) }
     {
         let (start, mut contents, right) = take_block(&alloc, len)?;
-        clear(&mut contents, start, len);
+        clear(&mut contents, start, 0, len);
         Ok(RawMem {
             start,
             len,
@@ -80,9 +80,9 @@ impl RawMem {
         })
     }
 
-    /// Appends `pages` pages of zeros (4.5.3, growing memories). The bytes move to a new block, and the
-    /// old one is given back. Where there is no memory for the new one, nothing changes.
-    pub fn grow(&mut self, alloc: Global, pages: u32) -> Result<(), AllocError>
+    /// Appends `pages` pages of zeros (4.5.3, growing memories). The block is made larger where it stands if there is room, and moves
+    /// else; only the new bytes are written. Where there is no memory for it, nothing changes.
+    pub fn grow(&mut self, pages: u32) -> Result<(), AllocError>
         requires { length self.old + pages * page_size ≤ most_pages * page_size }
         ensures grown { OnOk result (self.new ≡ self.old ++ zeros (pages * page_size)) }
         ensures len { OnOk result (length self.new ≡ length self.old + pages * page_size) }
@@ -91,9 +91,19 @@ impl RawMem {
         if pages == 0 {
             return Ok(());
         }
-        let mut larger = RawMem::zeroed(alloc, self.len + pages as usize * PAGE_SIZE)?;
-        put(larger.bytes_mut(), 0, self.bytes());
-        mem::swap(self, &mut larger);
+        let old_len = self.len;
+        let new_len = old_len + pages as usize * PAGE_SIZE;
+        let start = grow_block(
+            &self.alloc,
+            self.start,
+            old_len,
+            new_len,
+            &mut self.contents,
+            &mut self.right,
+        )?;
+        clear(&mut self.contents, start, old_len, new_len);
+        self.start = start;
+        self.len = new_len;
         Ok(())
     }
 
@@ -227,12 +237,12 @@ impl RawMem {
     }
 }
 
-/// Writes zeros into all the room of a new block.
-fn clear(contents: &mut BlockBytes, start: BlockStart, len: usize)
-    requires { (start.ptr ≡ contents.old.at) × (contents.old.bytes ≡ []) × (contents.old.spare ≡ len) }
-    ensures { (contents.new.at ≡ contents.old.at) × (contents.new.bytes ≡ zeros len) }
+/// Writes zeros into all the room of a block, which begins behind so many bytes and ends with its `len`-th.
+fn clear(contents: &mut BlockBytes, start: BlockStart, from: usize, len: usize)
+    requires { (start.ptr ≡ contents.old.at) × (length contents.old.bytes ≡ from) × (contents.old.spare + from ≡ len) }
+    ensures { (contents.new.at ≡ contents.old.at) × (contents.new.bytes ≡ contents.old.bytes ++ zeros (len - from)) }
 {
-    for i in 0..len {
+    for i in from..len {
         contents.push(start, i, 0);
     }
 }
