@@ -2,6 +2,7 @@ pub mod Steps
 pub mod Integers
 pub mod Groups
 pub mod Texts
+pub mod Shorter
 pub mod Sizes
 pub mod Exact
 pub mod Customs

@@ -1,6 +1,6 @@
 //! The open blocks of an expression that is read.
 
-ghost use Rattle.std.specs.Prelude.{◌≡◌, Some, IfOk};
+ghost use Rattle.std.specs.Prelude.{◌≡◌, ◌≤◌, ◌<◌, ◌+◌, ◌^◌, Some, IfOk, length};
 ghost use Rattle.wasm_grammar.specs.Answers.{Gives};
 ghost use Rattle.wasm_grammar.specs.Code.{make_block, if_of as if_instr};
 ghost use Rattle.wasm_grammar.specs.Running.{state, opens, turns, closes, step};
@@ -60,14 +60,13 @@ fn if_of(alloc: Global, ty: BlockType, body: BlockId, other: BlockId) -> Result<
     Ok(Instr::If(parts))
 }
 
-/// A block has ended, and has its number: that of the blocks that ended before it. Numbers end only where memory would.
+/// A block has ended, and has its number: that of the blocks that ended before it.
 pub fn ended(alloc: Global, built: &mut Built, instrs: Items<Instr>) -> Result<BlockId, ReadError>
-    ensures { Gives (λ id. (id, built.new)) result (Some (make_block instrs built.old)) }
+    requires { length built.old.blocks < 2 ^ 32 }
+    ensures room { IfOk result (λ id. length built.new.blocks ≡ length built.old.blocks + 1) }
+    ensures gives { Gives (λ id. (id, built.new)) result (Some (make_block instrs built.old)) }
 {
     let count = built.blocks.len();
-    if count > u32::MAX as usize {
-        return Err(ReadError::NoMemory);
-    }
     let block = fitted(alloc, instrs)?;
     built.blocks.push(block)?;
     Ok(BlockId(count as u32))
@@ -75,7 +74,8 @@ pub fn ended(alloc: Global, built: &mut Built, instrs: Items<Instr>) -> Result<B
 
 /// A block opens.
 fn opened(alloc: Global, built: &mut Built, so_far: Open, kind: Kind) -> Result<Open, ReadError>
-    ensures { Gives (λ x. state x built.new) result (Some (opens kind (state so_far built.old))) }
+    ensures room { IfOk result (λ x. length built.new.blocks + length x.levels ≡ length built.old.blocks + length so_far.levels + 1) }
+    ensures gives { Gives (λ x. state x built.new) result (Some (opens kind (state so_far built.old))) }
 {
     let Open { instrs, mut levels } = so_far;
     levels.push(Level {
@@ -90,7 +90,9 @@ fn opened(alloc: Global, built: &mut Built, so_far: Open, kind: Kind) -> Result<
 
 /// The first part of an `if` ends, and the second begins.
 fn turned(alloc: Global, built: &mut Built, so_far: Open) -> Result<Open, ReadError>
-    ensures { Gives (λ x. state x built.new) result (turns (state so_far built.old).levels so_far.instrs built.old) }
+    requires { length built.old.blocks < 2 ^ 32 }
+    ensures room { IfOk result (λ x. length built.new.blocks + length x.levels ≤ length built.old.blocks + length so_far.levels + 1) }
+    ensures gives { Gives (λ x. state x built.new) result (turns (state so_far built.old).levels so_far.instrs built.old) }
 {
     let Open { instrs, mut levels } = so_far;
     match levels.pop() {
@@ -114,7 +116,9 @@ fn turned(alloc: Global, built: &mut Built, so_far: Open) -> Result<Open, ReadEr
 
 /// The innermost block ends, and its instruction stands behind those before it.
 fn closed(alloc: Global, built: &mut Built, so_far: Open) -> Result<Open, ReadError>
-    ensures { Gives (λ x. state x built.new) result (closes (state so_far built.old).levels so_far.instrs built.old) }
+    requires { length built.old.blocks + 1 < 2 ^ 32 }
+    ensures room { IfOk result (λ x. length built.new.blocks + length x.levels ≤ length built.old.blocks + length so_far.levels + 1) }
+    ensures gives { Gives (λ x. state x built.new) result (closes (state so_far built.old).levels so_far.instrs built.old) }
 {
     let Open { instrs, mut levels } = so_far;
     let Some(Level { kind, mut before }) = levels.pop() else {
@@ -143,7 +147,9 @@ pub fn taken(
     so_far: Open,
     token: Token,
 ) -> Result<Open, ReadError>
-    ensures { Gives (λ x. state x built.new) result (step (state so_far built.old) token) }
+    requires { length built.old.blocks + 1 < 2 ^ 32 }
+    ensures room { IfOk result (λ x. length built.new.blocks + length x.levels ≤ length built.old.blocks + length so_far.levels + 1) }
+    ensures gives { Gives (λ x. state x built.new) result (step (state so_far built.old) token) }
 {
     match token {
         Token::Plain(instr) => {

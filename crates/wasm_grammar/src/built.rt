@@ -1,6 +1,6 @@
 //! What reading a module builds beside the values that it gives.
 
-ghost use Rattle.std.specs.Prelude.{◌≡◌};
+ghost use Rattle.std.specs.Prelude.{◌≡◌, length};
 ghost use Rattle.wasm_grammar.specs.Leaves.{with_leaf};
 
 use sqlite_items::Items;
@@ -31,7 +31,8 @@ pub struct Built {
 
 /// Notes a leaf, where it is the first one.
 pub fn note(built: &mut Built, leaf: Leaf)
-    ensures { built.new ≡ with_leaf built.old leaf }
+    ensures noted { built.new ≡ with_leaf built.old leaf }
+    ensures kept { length built.new.blocks ≡ length built.old.blocks }
 {
     if built.first.is_none() {
         built.first = Some(leaf);

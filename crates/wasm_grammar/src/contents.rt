@@ -20,8 +20,8 @@ fn sized_number_of<'a>(
     after: u64,
     bytes: &'a [u8],
 ) -> Result<(u32, &'a [u8]), ReadError>
-    requires { after + length bytes.now < 2 ^ 64 }
-    ensures shorter { IfOk result (λ x. length x.1.now ≤ length bytes.now) }
+    requires { length built.old.blocks + after + length bytes.now < 2 ^ 32 }
+    ensures room { IfOk result (λ x. length built.new.blocks + length x.1.now ≤ length built.old.blocks + length bytes.now) }
     ensures gives { Gives (λ x. ((x.0, built.new), x.1.now)) result (number_in built.old after bytes.now) }
 {
     let (part, rest) = part_of(bytes)?;
@@ -40,8 +40,8 @@ fn later_of<'a>(
     after: u64,
     bytes: &'a [u8],
 ) -> Result<(Held, &'a [u8]), ReadError>
-    requires { after + length bytes.now < 2 ^ 64 }
-    ensures shorter { IfOk result (λ x. length x.1.now ≤ length bytes.now) }
+    requires { length built.old.blocks + after + length bytes.now < 2 ^ 32 }
+    ensures room { IfOk result (λ x. length built.new.blocks + length x.1.now ≤ length built.old.blocks + length bytes.now) }
     ensures gives { Gives (λ x. ((x.0, built.new), x.1.now)) result (later_in id built.old after bytes.now) }
 {
     match id {
@@ -81,8 +81,8 @@ pub fn section_of<'a>(
     after: u64,
     bytes: &'a [u8],
 ) -> Result<(Held, &'a [u8]), ReadError>
-    requires { after + length bytes.now < 2 ^ 64 }
-    ensures shorter { IfOk result (λ x. length x.1.now ≤ length bytes.now) }
+    requires { length built.old.blocks + after + length bytes.now < 2 ^ 32 }
+    ensures room { IfOk result (λ x. length built.new.blocks + length x.1.now ≤ length built.old.blocks + length bytes.now) }
     ensures gives { Gives (λ x. ((x.0, built.new), x.1.now)) result (section_in built.old after bytes.now) }
 {
     let [id, bytes @ ..] = bytes else {

@@ -98,7 +98,7 @@ fn assembled(alloc: Global, parts: Parts, blocks: Items<Items<Instr>>) -> Result
 
 /// What is read of the bytes.
 fn decided(alloc: Global, bytes: &[u8]) -> Result<Module, DecodeError>
-    requires { length bytes.now < 2 ^ 64 }
+    requires { length bytes.now < 2 ^ 32 }
     ensures { IfSome (told result) (λ d. d ≡ read_as bytes.now (module_in bytes.now)) }
 {
     match module_parts_of(alloc, bytes) {

@@ -18,8 +18,8 @@ fn import_desc_of<'a>(
     after: u64,
     bytes: &'a [u8],
 ) -> Result<(ImportDesc, &'a [u8]), ReadError>
-    requires { after + length bytes.now < 2 ^ 64 }
-    ensures shorter { IfOk result (λ x. length x.1.now ≤ length bytes.now) }
+    requires { length built.old.blocks + after + length bytes.now < 2 ^ 32 }
+    ensures room { IfOk result (λ x. length built.new.blocks + length x.1.now ≤ length built.old.blocks + length bytes.now) }
     ensures gives { Gives (λ x. ((x.0, built.new), x.1.now)) result (import_desc_in built.old after bytes.now) }
 {
     match bytes {
@@ -50,8 +50,8 @@ pub fn import_of<'a>(
     after: u64,
     bytes: &'a [u8],
 ) -> Result<(Import, &'a [u8]), ReadError>
-    requires { after + length bytes.now < 2 ^ 64 }
-    ensures shorter { IfOk result (λ x. length x.1.now ≤ length bytes.now) }
+    requires { length built.old.blocks + after + length bytes.now < 2 ^ 32 }
+    ensures room { IfOk result (λ x. length built.new.blocks + length x.1.now ≤ length built.old.blocks + length bytes.now) }
     ensures gives { Gives (λ x. ((x.0, built.new), x.1.now)) result (import_in built.old after bytes.now) }
 {
     let (module, rest) = name_of(alloc, bytes)?;
@@ -66,8 +66,8 @@ fn export_desc_of<'a>(
     after: u64,
     bytes: &'a [u8],
 ) -> Result<(ExportDesc, &'a [u8]), ReadError>
-    requires { after + length bytes.now < 2 ^ 64 }
-    ensures shorter { IfOk result (λ x. length x.1.now ≤ length bytes.now) }
+    requires { length built.old.blocks + after + length bytes.now < 2 ^ 32 }
+    ensures room { IfOk result (λ x. length built.new.blocks + length x.1.now ≤ length built.old.blocks + length bytes.now) }
     ensures gives { Gives (λ x. ((x.0, built.new), x.1.now)) result (export_desc_in built.old after bytes.now) }
 {
     match bytes {
@@ -98,8 +98,8 @@ pub fn export_of<'a>(
     after: u64,
     bytes: &'a [u8],
 ) -> Result<(Export, &'a [u8]), ReadError>
-    requires { after + length bytes.now < 2 ^ 64 }
-    ensures shorter { IfOk result (λ x. length x.1.now ≤ length bytes.now) }
+    requires { length built.old.blocks + after + length bytes.now < 2 ^ 32 }
+    ensures room { IfOk result (λ x. length built.new.blocks + length x.1.now ≤ length built.old.blocks + length bytes.now) }
     ensures gives { Gives (λ x. ((x.0, built.new), x.1.now)) result (export_in built.old after bytes.now) }
 {
     let (name, rest) = name_of(alloc, bytes)?;

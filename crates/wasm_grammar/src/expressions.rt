@@ -43,7 +43,8 @@ fn end_of(bytes: &[u8]) -> &[u8]
 
 /// A foreign leaf ends all open blocks.
 fn cut(alloc: Global, built: &mut Built, left: u64) -> Open
-    ensures { state result built.new ≡ cut_at left built.old }
+    ensures ends { length built.new.blocks ≡ 0 }
+    ensures gives { state result built.new ≡ cut_at left built.old }
 {
     built.blocks = Items::new(alloc);
     note(
@@ -67,8 +68,8 @@ fn run_of<'a>(
     after: u64,
     bytes: &'a [u8],
 ) -> Result<(Open, &'a [u8]), ReadError>
-    requires { after + length bytes.now < 2 ^ 64 }
-    ensures shorter { IfOk result (λ x. length x.1.now ≤ length bytes.now) }
+    requires { length built.old.blocks + after + length bytes.now < 2 ^ 32 }
+    ensures room { IfOk result (λ x. length built.new.blocks + length x.1.now < length built.old.blocks + length bytes.now) }
     ensures gives { Gives (λ x. (state x.0 built.new, x.1.now)) result (run in_code (length bytes.now) (start built.old) after bytes.now) }
 {
     let mut so_far = Open {
@@ -100,8 +101,8 @@ pub fn expression_of<'a>(
     after: u64,
     bytes: &'a [u8],
 ) -> Result<(BlockId, &'a [u8]), ReadError>
-    requires { after + length bytes.now < 2 ^ 64 }
-    ensures shorter { IfOk result (λ x. length x.1.now ≤ length bytes.now) }
+    requires { length built.old.blocks + after + length bytes.now < 2 ^ 32 }
+    ensures room { IfOk result (λ x. length built.new.blocks + length x.1.now ≤ length built.old.blocks + length bytes.now) }
     ensures gives { Gives (λ x. ((x.0, built.new), x.1.now)) result (expression_in in_code built.old after bytes.now) }
 {
     let (so_far, rest) = run_of(alloc, in_code, built, after, bytes)?;
@@ -116,8 +117,9 @@ pub fn body_of(
     after: u64,
     bytes: &[u8],
 ) -> Result<BlockId, ReadError>
-    requires { after + length bytes.now < 2 ^ 64 }
-    ensures { Gives (λ x. (x, built.new)) result (body_in built.old after bytes.now) }
+    requires { length built.old.blocks + after + length bytes.now < 2 ^ 32 }
+    ensures room { IfOk result (λ x. length built.new.blocks ≤ length built.old.blocks + length bytes.now) }
+    ensures gives { Gives (λ x. (x, built.new)) result (body_in built.old after bytes.now) }
 {
     let (id, rest) = expression_of(alloc, true, built, after, bytes)?;
     if !rest.is_empty() {

@@ -23,6 +23,8 @@ pub struct CodeEntry {
 }
 
 impl Item for GlobalDef {
+    type Value = GlobalDef;
+
     ghost reading = { global_in };
 
     fn read<'a>(
@@ -38,6 +40,8 @@ impl Item for GlobalDef {
 }
 
 impl Item for (u32, ValType) {
+    type Value = (u32, ValType);
+
     ghost reading = { local_in };
 
     fn read<'a>(
@@ -73,8 +77,8 @@ fn locals_of<'a>(
     after: u64,
     bytes: &'a [u8],
 ) -> Result<(Items<(u32, ValType)>, &'a [u8]), ReadError>
-    requires { after + length bytes.now < 2 ^ 64 }
-    ensures shorter { IfOk result (λ x. length x.1.now ≤ length bytes.now) }
+    requires { length built.old.blocks + after + length bytes.now < 2 ^ 32 }
+    ensures room { IfOk result (λ x. length built.new.blocks + length x.1.now ≤ length built.old.blocks + length bytes.now) }
     ensures gives { Gives (λ x. ((x.0, built.new), x.1.now)) result (locals_in built.old after bytes.now) }
 {
     let (locals, rest) = vector_of::<(u32, ValType)>(alloc, built, after, bytes)?;
@@ -91,8 +95,9 @@ fn function_of(
     after: u64,
     bytes: &[u8],
 ) -> Result<CodeEntry, ReadError>
-    requires { after + length bytes.now < 2 ^ 64 }
-    ensures { Gives (λ x. (x, built.new)) result (function_in built.old after bytes.now) }
+    requires { length built.old.blocks + after + length bytes.now < 2 ^ 32 }
+    ensures room { IfOk result (λ x. length built.new.blocks ≤ length built.old.blocks + length bytes.now) }
+    ensures gives { Gives (λ x. (x, built.new)) result (function_in built.old after bytes.now) }
 {
     let (locals, rest) = locals_of(alloc, built, after, bytes)?;
     let body = body_of(alloc, built, after, rest)?;
@@ -100,6 +105,8 @@ fn function_of(
 }
 
 impl Item for CodeEntry {
+    type Value = CodeEntry;
+
     ghost reading = { entry_in };
 
     fn read<'a>(

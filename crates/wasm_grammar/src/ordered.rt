@@ -28,7 +28,7 @@ fn last_behind(last: u8, place: u8) -> u8
 
 /// What the sections hold, which go to the end of the bytes.
 fn sections_of(alloc: Global, built: &mut Built, bytes: &[u8]) -> Result<Parts, ReadError>
-    requires { length bytes.now < 2 ^ 64 }
+    requires { length built.old.blocks + length bytes.now < 2 ^ 32 }
     ensures { Gives (λ x. (x, built.new)) result (held_of no_parts 0 (all_in section_in (length bytes.now) built.old 0 bytes.now)) }
 {
     let mut parts = nothing_held(alloc);
@@ -80,7 +80,7 @@ fn agree(parts: &Parts, built: &Built) -> bool
 /// What the sections of the module hold that the bytes spell, and what its expressions build.
 #[tactic(auto, unfolding(crate::specs::Module::module_in, crate::specs::Module::sections_in))]
 pub fn module_parts_of(alloc: Global, bytes: &[u8]) -> Result<(Parts, Built), ReadError>
-    requires { length bytes.now < 2 ^ 64 }
+    requires { length bytes.now < 2 ^ 32 }
     ensures { Gives (λ x. x) result (module_in bytes.now) }
 {
     let rest = behind_preamble(bytes)?;

@@ -4,7 +4,6 @@ ghost use Rattle.std.specs.Prelude.{◌≡◌, ◌≤◌, ◌<◌, ◌+◌, ◌^
 ghost use Rattle.wasm_grammar.specs.Answers.{Gives};
 ghost use Rattle.wasm_grammar.specs.Running.{expression_in};
 ghost use Rattle.wasm_grammar.specs.Segments.{first_in, indexed_in, func_ref_in, funcs_in, kind_in, func_exprs_in, exprs_in, elem_of, elem_in, data_at, data_in};
-ghost use Rattle.wasm_grammar.specs.Threads.{vector_in};
 
 use crate::blocks::ended;
 use crate::built::Built;
@@ -25,6 +24,8 @@ type Refs = (ValType, Items<BlockId>);
 impl Item for BlockId {
     ghost use Rattle.std.specs.Prelude.{false};
 
+    type Value = BlockId;
+
     ghost reading = { expression_in false };
 
     fn read<'a>(
@@ -44,8 +45,8 @@ fn first_of<'a>(
     after: u64,
     bytes: &'a [u8],
 ) -> Result<(Mode, &'a [u8]), ReadError>
-    requires { after + length bytes.now < 2 ^ 64 }
-    ensures shorter { IfOk result (λ x. length x.1.now ≤ length bytes.now) }
+    requires { length built.old.blocks + after + length bytes.now < 2 ^ 32 }
+    ensures room { IfOk result (λ x. length built.new.blocks + length x.1.now ≤ length built.old.blocks + length bytes.now) }
     ensures gives { Gives (λ x. ((x.0, built.new), x.1.now)) result (first_in built.old after bytes.now) }
 {
     let (offset, rest) = expression_of(alloc, false, built, after, bytes)?;
@@ -59,8 +60,8 @@ fn indexed_of<'a>(
     after: u64,
     bytes: &'a [u8],
 ) -> Result<(Mode, &'a [u8]), ReadError>
-    requires { after + length bytes.now < 2 ^ 64 }
-    ensures shorter { IfOk result (λ x. length x.1.now ≤ length bytes.now) }
+    requires { length built.old.blocks + after + length bytes.now < 2 ^ 32 }
+    ensures room { IfOk result (λ x. length built.new.blocks + length x.1.now ≤ length built.old.blocks + length bytes.now) }
     ensures gives { Gives (λ x. ((x.0, built.new), x.1.now)) result (indexed_in built.old after bytes.now) }
 {
     let (index, rest) = u32_of(bytes)?;
@@ -68,43 +69,26 @@ fn indexed_of<'a>(
     Ok((Mode::Active { index, offset }, rest))
 }
 
-/// The function index at the front, as the block of an expression that refers to it.
-fn func_ref_of<'a>(
-    alloc: Global,
-    built: &mut Built,
-    after: u64,
-    bytes: &'a [u8],
-) -> Result<(BlockId, &'a [u8]), ReadError>
-    requires { after + length bytes.now < 2 ^ 64 }
-    ensures shorter { IfOk result (λ x. length x.1.now ≤ length bytes.now) }
-    ensures gives { Gives (λ x. ((x.0, built.new), x.1.now)) result (func_ref_in built.old after bytes.now) }
-{
-    let (index, rest) = u32_of(bytes)?;
-    let mut instrs = Items::new(alloc);
-    instrs.push(Instr::RefFunc(index))?;
-    let id = ended(alloc, built, instrs)?;
-    Ok((id, rest))
-}
+/// A function index, which stands for the block of an expression that refers to it.
+pub struct FuncIndex;
 
-/// The vector of function indices at the front.
-fn func_refs_of<'a>(
-    alloc: Global,
-    built: &mut Built,
-    after: u64,
-    bytes: &'a [u8],
-) -> Result<(Items<BlockId>, &'a [u8]), ReadError>
-    requires { after + length bytes.now < 2 ^ 64 }
-    ensures shorter { IfOk result (λ x. length x.1.now ≤ length bytes.now) }
-    ensures gives { Gives (λ x. ((x.0, built.new), x.1.now)) result (vector_in func_ref_in built.old after bytes.now) }
-{
-    let (count, mut rest) = u32_of(bytes)?;
-    let mut items = Items::new(alloc);
-    for _ in 0..count {
-        let (item, next) = func_ref_of(alloc, built, after, rest)?;
-        items.push(item)?;
-        rest = next;
+impl Item for FuncIndex {
+    type Value = BlockId;
+
+    ghost reading = { func_ref_in };
+
+    fn read<'a>(
+        alloc: Global,
+        built: &mut Built,
+        _after: u64,
+        bytes: &'a [u8],
+    ) -> Result<(BlockId, &'a [u8]), ReadError> {
+        let (index, rest) = u32_of(bytes)?;
+        let mut instrs = Items::new(alloc);
+        instrs.push(Instr::RefFunc(index))?;
+        let id = ended(alloc, built, instrs)?;
+        Ok((id, rest))
     }
-    Ok((items, rest))
 }
 
 /// References to functions, by their indices.
@@ -114,11 +98,11 @@ fn funcs_of<'a>(
     after: u64,
     bytes: &'a [u8],
 ) -> Result<(Refs, &'a [u8]), ReadError>
-    requires { after + length bytes.now < 2 ^ 64 }
-    ensures shorter { IfOk result (λ x. length x.1.now ≤ length bytes.now) }
+    requires { length built.old.blocks + after + length bytes.now < 2 ^ 32 }
+    ensures room { IfOk result (λ x. length built.new.blocks + length x.1.now ≤ length built.old.blocks + length bytes.now) }
     ensures gives { Gives (λ x. ((x.0, built.new), x.1.now)) result (funcs_in built.old after bytes.now) }
 {
-    let (items, rest) = func_refs_of(alloc, built, after, bytes)?;
+    let (items, rest) = vector_of::<FuncIndex>(alloc, built, after, bytes)?;
     Ok(((ValType::FuncRef, items), rest))
 }
 
@@ -129,8 +113,8 @@ fn kind_of<'a>(
     after: u64,
     bytes: &'a [u8],
 ) -> Result<(Refs, &'a [u8]), ReadError>
-    requires { after + length bytes.now < 2 ^ 64 }
-    ensures shorter { IfOk result (λ x. length x.1.now ≤ length bytes.now) }
+    requires { length built.old.blocks + after + length bytes.now < 2 ^ 32 }
+    ensures room { IfOk result (λ x. length built.new.blocks + length x.1.now ≤ length built.old.blocks + length bytes.now) }
     ensures gives { Gives (λ x. ((x.0, built.new), x.1.now)) result (kind_in built.old after bytes.now) }
 {
     match bytes {
@@ -146,8 +130,8 @@ fn func_exprs_of<'a>(
     after: u64,
     bytes: &'a [u8],
 ) -> Result<(Refs, &'a [u8]), ReadError>
-    requires { after + length bytes.now < 2 ^ 64 }
-    ensures shorter { IfOk result (λ x. length x.1.now ≤ length bytes.now) }
+    requires { length built.old.blocks + after + length bytes.now < 2 ^ 32 }
+    ensures room { IfOk result (λ x. length built.new.blocks + length x.1.now ≤ length built.old.blocks + length bytes.now) }
     ensures gives { Gives (λ x. ((x.0, built.new), x.1.now)) result (func_exprs_in built.old after bytes.now) }
 {
     let (items, rest) = vector_of::<BlockId>(alloc, built, after, bytes)?;
@@ -161,8 +145,8 @@ fn exprs_of<'a>(
     after: u64,
     bytes: &'a [u8],
 ) -> Result<(Refs, &'a [u8]), ReadError>
-    requires { after + length bytes.now < 2 ^ 64 }
-    ensures shorter { IfOk result (λ x. length x.1.now ≤ length bytes.now) }
+    requires { length built.old.blocks + after + length bytes.now < 2 ^ 32 }
+    ensures room { IfOk result (λ x. length built.new.blocks + length x.1.now ≤ length built.old.blocks + length bytes.now) }
     ensures gives { Gives (λ x. ((x.0, built.new), x.1.now)) result (exprs_in built.old after bytes.now) }
 {
     let (ty, rest) = ref_type_of(bytes)?;
@@ -179,6 +163,8 @@ fn elem(mode: Mode, refs: Refs) -> Elem
 }
 
 impl Item for Elem {
+    type Value = Elem;
+
     ghost reading = { elem_in };
 
     fn read<'a>(
@@ -241,6 +227,8 @@ fn data_of<'a>(alloc: Global, mode: Mode, bytes: &'a [u8]) -> Result<(Data, &'a 
 }
 
 impl Item for Data {
+    type Value = Data;
+
     ghost reading = { data_in };
 
     fn read<'a>(

@@ -41,8 +41,8 @@ fn block_type_of<'a>(
     after: u64,
     bytes: &'a [u8],
 ) -> Result<(BlockType, &'a [u8]), ReadError>
-    requires { after + length bytes.now < 2 ^ 64 }
-    ensures shorter { IfOk result (λ x. length x.1.now ≤ length bytes.now) }
+    requires { length built.old.blocks + after + length bytes.now < 2 ^ 32 }
+    ensures room { IfOk result (λ x. length built.new.blocks + length x.1.now ≤ length built.old.blocks + length bytes.now) }
     ensures gives { Gives (λ x. ((x.0, built.new), x.1.now)) result (block_type_in built.old after bytes.now) }
 {
     match bytes {
@@ -104,7 +104,8 @@ fn behind_vector_constant(bytes: &[u8]) -> Result<&[u8], ReadError>
 
 /// Notes that a data segment is named, where this is in the code of a function.
 fn note_data(in_code: bool, built: &mut Built)
-    ensures { built.new ≡ with_data in_code built.old }
+    ensures noted { built.new ≡ with_data in_code built.old }
+    ensures kept { length built.new.blocks ≡ length built.old.blocks }
 {
     if in_code {
         built.data_used = true;
@@ -119,8 +120,8 @@ fn control_of<'a>(
     after: u64,
     bytes: &'a [u8],
 ) -> Result<(Token, &'a [u8]), ReadError>
-    requires { after + length bytes.now < 2 ^ 64 }
-    ensures shorter { IfOk result (λ x. length x.1.now ≤ length bytes.now) }
+    requires { length built.old.blocks + after + length bytes.now < 2 ^ 32 }
+    ensures room { IfOk result (λ x. length built.new.blocks + length x.1.now ≤ length built.old.blocks + length bytes.now) }
     ensures gives { (in_code : Bool) → Gives (λ x. ((x.0, built.new), x.1.now)) result (shaped_in in_code (table.control_shape op) built.old after bytes.now) }
 {
     match op {
@@ -153,8 +154,8 @@ fn branch_of<'a>(
     after: u64,
     bytes: &'a [u8],
 ) -> Result<(Token, &'a [u8]), ReadError>
-    requires { after + length bytes.now < 2 ^ 64 }
-    ensures shorter { IfOk result (λ x. length x.1.now ≤ length bytes.now) }
+    requires { length built.old.blocks + after + length bytes.now < 2 ^ 32 }
+    ensures room { IfOk result (λ x. length built.new.blocks + length x.1.now ≤ length built.old.blocks + length bytes.now) }
     ensures gives { (in_code : Bool) → Gives (λ x. ((x.0, built.new), x.1.now)) result (shaped_in in_code (table.branch_shape op) built.old after bytes.now) }
 {
     match op {
@@ -195,8 +196,8 @@ fn variable_of<'a>(
     after: u64,
     bytes: &'a [u8],
 ) -> Result<(Token, &'a [u8]), ReadError>
-    requires { after + length bytes.now < 2 ^ 64 }
-    ensures shorter { IfOk result (λ x. length x.1.now ≤ length bytes.now) }
+    requires { length built.old.blocks + after + length bytes.now < 2 ^ 32 }
+    ensures room { IfOk result (λ x. length built.new.blocks + length x.1.now ≤ length built.old.blocks + length bytes.now) }
     ensures gives { (in_code : Bool) → Gives (λ x. ((x.0, built.new), x.1.now)) result (shaped_in in_code (table.variable_shape op) built.old after bytes.now) }
 {
     match op {
@@ -247,8 +248,8 @@ fn memory_of<'a>(
     after: u64,
     bytes: &'a [u8],
 ) -> Result<(Token, &'a [u8]), ReadError>
-    requires { after + length bytes.now + 1 < 2 ^ 64 }
-    ensures shorter { IfOk result (λ x. length x.1.now ≤ length bytes.now) }
+    requires { length built.old.blocks + after + length bytes.now + 1 < 2 ^ 32 }
+    ensures room { IfOk result (λ x. length built.new.blocks + length x.1.now ≤ length built.old.blocks + length bytes.now) }
     ensures gives { (in_code : Bool) → Gives (λ x. ((x.0, built.new), x.1.now)) result (shaped_in in_code (table.memory_shape op) built.old after bytes.now) }
 {
     let left = after + bytes.len() as u64 + 1;
@@ -272,8 +273,8 @@ fn float_of<'a>(
     after: u64,
     bytes: &'a [u8],
 ) -> Result<(Token, &'a [u8]), ReadError>
-    requires { after + length bytes.now + 1 < 2 ^ 64 }
-    ensures shorter { IfOk result (λ x. length x.1.now ≤ length bytes.now) }
+    requires { length built.old.blocks + after + length bytes.now + 1 < 2 ^ 32 }
+    ensures room { IfOk result (λ x. length built.new.blocks + length x.1.now ≤ length built.old.blocks + length bytes.now) }
     ensures gives { (in_code : Bool) → Gives (λ x. ((x.0, built.new), x.1.now)) result (shaped_in in_code (float_bytes count) built.old after bytes.now) }
 {
     let left = after + bytes.len() as u64 + 1;
@@ -291,8 +292,8 @@ fn constant_of<'a>(
     after: u64,
     bytes: &'a [u8],
 ) -> Result<(Token, &'a [u8]), ReadError>
-    requires { after + length bytes.now + 1 < 2 ^ 64 }
-    ensures shorter { IfOk result (λ x. length x.1.now ≤ length bytes.now) }
+    requires { length built.old.blocks + after + length bytes.now + 1 < 2 ^ 32 }
+    ensures room { IfOk result (λ x. length built.new.blocks + length x.1.now ≤ length built.old.blocks + length bytes.now) }
     ensures gives { (in_code : Bool) → Gives (λ x. ((x.0, built.new), x.1.now)) result (shaped_in in_code (table.constant_shape op) built.old after bytes.now) }
 {
     match op {
@@ -326,8 +327,8 @@ fn conversion_of<'a>(
     after: u64,
     bytes: &'a [u8],
 ) -> Result<(Token, &'a [u8]), ReadError>
-    requires { after + length bytes.now < 2 ^ 64 }
-    ensures shorter { IfOk result (λ x. length x.1.now ≤ length bytes.now) }
+    requires { length built.old.blocks + after + length bytes.now < 2 ^ 32 }
+    ensures room { IfOk result (λ x. length built.new.blocks + length x.1.now ≤ length built.old.blocks + length bytes.now) }
     ensures gives { (in_code : Bool) → Gives (λ x. ((x.0, built.new), x.1.now)) result (shaped_in in_code (table.conversion_shape op) built.old after bytes.now) }
 {
     match op {
@@ -351,8 +352,8 @@ fn reference_of<'a>(
     after: u64,
     bytes: &'a [u8],
 ) -> Result<(Token, &'a [u8]), ReadError>
-    requires { after + length bytes.now < 2 ^ 64 }
-    ensures shorter { IfOk result (λ x. length x.1.now ≤ length bytes.now) }
+    requires { length built.old.blocks + after + length bytes.now < 2 ^ 32 }
+    ensures room { IfOk result (λ x. length built.new.blocks + length x.1.now ≤ length built.old.blocks + length bytes.now) }
     ensures gives { (in_code : Bool) → Gives (λ x. ((x.0, built.new), x.1.now)) result (shaped_in in_code (table.reference_shape op) built.old after bytes.now) }
 {
     match op {
@@ -377,8 +378,8 @@ fn integer_of<'a>(
     after: u64,
     bytes: &'a [u8],
 ) -> Result<(Token, &'a [u8]), ReadError>
-    requires { after + length bytes.now < 2 ^ 64 }
-    ensures shorter { IfOk result (λ x. length x.1.now ≤ length bytes.now) }
+    requires { length built.old.blocks + after + length bytes.now < 2 ^ 32 }
+    ensures room { IfOk result (λ x. length built.new.blocks + length x.1.now ≤ length built.old.blocks + length bytes.now) }
     ensures gives { (in_code : Bool) → Gives (λ x. ((x.0, built.new), x.1.now)) result (shaped_in in_code (table.integer_shape op) built.old after bytes.now) }
 {
     if op < 0x50 {
@@ -409,8 +410,8 @@ fn instruction_of<'a>(
     after: u64,
     bytes: &'a [u8],
 ) -> Result<(Token, &'a [u8]), ReadError>
-    requires { after + length bytes.now + 1 < 2 ^ 64 }
-    ensures shorter { IfOk result (λ x. length x.1.now ≤ length bytes.now) }
+    requires { length built.old.blocks + after + length bytes.now + 1 < 2 ^ 32 }
+    ensures room { IfOk result (λ x. length built.new.blocks + length x.1.now ≤ length built.old.blocks + length bytes.now) }
     ensures gives { Gives (λ x. ((x.0, built.new), x.1.now)) result (shaped_in in_code (table.shape_of op) built.old after bytes.now) }
 {
     if is_float(op) {
@@ -449,8 +450,8 @@ fn bulk_of<'a>(
     after: u64,
     bytes: &'a [u8],
 ) -> Result<(Token, &'a [u8]), ReadError>
-    requires { after + length bytes.now < 2 ^ 64 }
-    ensures shorter { IfOk result (λ x. length x.1.now ≤ length bytes.now) }
+    requires { length built.old.blocks + after + length bytes.now < 2 ^ 32 }
+    ensures room { IfOk result (λ x. length built.new.blocks + length x.1.now ≤ length built.old.blocks + length bytes.now) }
     ensures gives { Gives (λ x. ((x.0, built.new), x.1.now)) result (shaped_in in_code (table.bulk_shape number) built.old after bytes.now) }
 {
     match number {
@@ -512,8 +513,8 @@ fn prefixed_of<'a>(
     after: u64,
     bytes: &'a [u8],
 ) -> Result<(Token, &'a [u8]), ReadError>
-    requires { after + length bytes.now + 1 < 2 ^ 64 }
-    ensures shorter { IfOk result (λ x. length x.1.now ≤ length bytes.now) }
+    requires { length built.old.blocks + after + length bytes.now + 1 < 2 ^ 32 }
+    ensures room { IfOk result (λ x. length built.new.blocks + length x.1.now ≤ length built.old.blocks + length bytes.now) }
     ensures gives { Gives (λ x. ((x.0, built.new), x.1.now)) result (prefixed_in in_code built.old after bytes.now) }
 {
     let left = after + bytes.len() as u64 + 1;
@@ -532,8 +533,8 @@ fn vector_constant_of<'a>(
     after: u64,
     bytes: &'a [u8],
 ) -> Result<(Token, &'a [u8]), ReadError>
-    requires { after + length bytes.now + 1 < 2 ^ 64 }
-    ensures shorter { IfOk result (λ x. length x.1.now ≤ length bytes.now) }
+    requires { length built.old.blocks + after + length bytes.now + 1 < 2 ^ 32 }
+    ensures room { IfOk result (λ x. length built.new.blocks + length x.1.now ≤ length built.old.blocks + length bytes.now) }
     ensures gives { (in_code : Bool) → Gives (λ x. ((x.0, built.new), x.1.now)) result (vector_constant_in in_code built.old after bytes.now) }
 {
     let left = after + bytes.len() as u64 + 1;
@@ -551,8 +552,8 @@ pub fn token_of<'a>(
     after: u64,
     bytes: &'a [u8],
 ) -> Result<(Token, &'a [u8]), ReadError>
-    requires { after + length bytes.now < 2 ^ 64 }
-    ensures shorter { IfOk result (λ x. length x.1.now ≤ length bytes.now) }
+    requires { length built.old.blocks + after + length bytes.now < 2 ^ 32 }
+    ensures room { IfOk result (λ x. length built.new.blocks + length x.1.now < length built.old.blocks + length bytes.now) }
     ensures gives { Gives (λ x. ((x.0, built.new), x.1.now)) result (token_in in_code built.old after bytes.now) }
 {
     let [op, rest @ ..] = bytes else {

@@ -18,8 +18,8 @@ pub fn val_type_of<'a>(
     after: u64,
     bytes: &'a [u8],
 ) -> Result<(ValType, &'a [u8]), ReadError>
-    requires { after + length bytes.now < 2 ^ 64 }
-    ensures shorter { IfOk result (λ x. length x.1.now ≤ length bytes.now) }
+    requires { length built.old.blocks + after + length bytes.now < 2 ^ 32 }
+    ensures room { IfOk result (λ x. length built.new.blocks + length x.1.now ≤ length built.old.blocks + length bytes.now) }
     ensures gives { Gives (λ x. ((x.0, built.new), x.1.now)) result (val_in built.old after bytes.now) }
 {
     match bytes {
@@ -72,8 +72,8 @@ pub fn func_type_of<'a>(
     after: u64,
     bytes: &'a [u8],
 ) -> Result<(FuncType, &'a [u8]), ReadError>
-    requires { after + length bytes.now < 2 ^ 64 }
-    ensures shorter { IfOk result (λ x. length x.1.now ≤ length bytes.now) }
+    requires { length built.old.blocks + after + length bytes.now < 2 ^ 32 }
+    ensures room { IfOk result (λ x. length built.new.blocks + length x.1.now ≤ length built.old.blocks + length bytes.now) }
     ensures gives { Gives (λ x. ((x.0, built.new), x.1.now)) result (func_type_in built.old after bytes.now) }
 {
     match bytes {
@@ -139,8 +139,8 @@ pub fn global_type_of<'a>(
     after: u64,
     bytes: &'a [u8],
 ) -> Result<(GlobalType, &'a [u8]), ReadError>
-    requires { after + length bytes.now < 2 ^ 64 }
-    ensures shorter { IfOk result (λ x. length x.1.now ≤ length bytes.now) }
+    requires { length built.old.blocks + after + length bytes.now < 2 ^ 32 }
+    ensures room { IfOk result (λ x. length built.new.blocks + length x.1.now ≤ length built.old.blocks + length bytes.now) }
     ensures gives { Gives (λ x. ((x.0, built.new), x.1.now)) result (global_type_in built.old after bytes.now) }
 {
     let (val, rest) = val_type_of(built, after, bytes)?;

@@ -19,8 +19,11 @@ use std::alloc::Global;
 use wasm_syntax::{Export, FuncType, Import, Limit, TableType, ValType};
 
 /// What may stand in a vector, with the function on lists of bytes that tells how it is read.
-pub trait Item: Drop + Sized {
-    ghost reading: { Reader BuiltValue Self };
+pub trait Item {
+    /// What is read.
+    type Value: Drop;
+
+    ghost reading: { Reader BuiltValue Self.Value };
 
     /// The item at the front, and what stands behind it.
     fn read<'a>(
@@ -28,13 +31,15 @@ pub trait Item: Drop + Sized {
         built: &mut Built,
         after: u64,
         bytes: &'a [u8],
-    ) -> Result<(Self, &'a [u8]), ReadError>
-        requires { after + length bytes.now < 2 ^ 64 }
-        ensures shorter { IfOk result (λ x. length x.1.now ≤ length bytes.now) }
+    ) -> Result<(Self::Value, &'a [u8]), ReadError>
+        requires { length built.old.blocks + after + length bytes.now < 2 ^ 32 }
+        ensures room { IfOk result (λ x. length built.new.blocks + length x.1.now ≤ length built.old.blocks + length bytes.now) }
         ensures gives { Gives (λ x. ((x.0, built.new), x.1.now)) result (reading built.old after bytes.now) };
 }
 
 impl Item for u32 {
+    type Value = u32;
+
     ghost reading = { same_in u32_at };
 
     fn read<'a>(
@@ -48,6 +53,8 @@ impl Item for u32 {
 }
 
 impl Item for ValType {
+    type Value = ValType;
+
     ghost reading = { val_in };
 
     fn read<'a>(
@@ -61,6 +68,8 @@ impl Item for ValType {
 }
 
 impl Item for FuncType {
+    type Value = FuncType;
+
     ghost reading = { func_type_in };
 
     fn read<'a>(
@@ -74,6 +83,8 @@ impl Item for FuncType {
 }
 
 impl Item for TableType {
+    type Value = TableType;
+
     ghost reading = { table_type_in };
 
     fn read<'a>(
@@ -87,6 +98,8 @@ impl Item for TableType {
 }
 
 impl Item for Limit {
+    type Value = Limit;
+
     ghost reading = { limits_in };
 
     fn read<'a>(
@@ -100,6 +113,8 @@ impl Item for Limit {
 }
 
 impl Item for Import {
+    type Value = Import;
+
     ghost reading = { import_in };
 
     fn read<'a>(
@@ -113,6 +128,8 @@ impl Item for Import {
 }
 
 impl Item for Export {
+    type Value = Export;
+
     ghost reading = { export_in };
 
     fn read<'a>(
@@ -131,9 +148,9 @@ pub fn vector_of<'a, T: Item>(
     built: &mut Built,
     after: u64,
     bytes: &'a [u8],
-) -> Result<(Items<T>, &'a [u8]), ReadError>
-    requires { after + length bytes.now < 2 ^ 64 }
-    ensures shorter { IfOk result (λ x. length x.1.now ≤ length bytes.now) }
+) -> Result<(Items<T::Value>, &'a [u8]), ReadError>
+    requires { length built.old.blocks + after + length bytes.now < 2 ^ 32 }
+    ensures room { IfOk result (λ x. length built.new.blocks + length x.1.now ≤ length built.old.blocks + length bytes.now) }
     ensures gives { Gives (λ x. ((x.0, built.new), x.1.now)) result (vector_in T.reading built.old after bytes.now) }
 {
     let (count, mut rest) = u32_of(bytes)?;
@@ -152,9 +169,9 @@ pub fn sized_vector_of<'a, T: Item>(
     built: &mut Built,
     after: u64,
     bytes: &'a [u8],
-) -> Result<(Items<T>, &'a [u8]), ReadError>
-    requires { after + length bytes.now < 2 ^ 64 }
-    ensures shorter { IfOk result (λ x. length x.1.now ≤ length bytes.now) }
+) -> Result<(Items<T::Value>, &'a [u8]), ReadError>
+    requires { length built.old.blocks + after + length bytes.now < 2 ^ 32 }
+    ensures room { IfOk result (λ x. length built.new.blocks + length x.1.now ≤ length built.old.blocks + length bytes.now) }
     ensures gives { Gives (λ x. ((x.0, built.new), x.1.now)) result (sized_in (whole_in (vector_in T.reading)) built.old after bytes.now) }
 {
     let (part, rest) = part_of(bytes)?;

@@ -7,7 +7,7 @@ use Rattle.wasm_grammar.proofs.expressions.run_of.Goals as goal
 pub returns-then-ends_entry-clause-gives : goal.returns-then-ends_entry-clause-gives
 returns-then-ends_entry-clause-gives c =
     let whole = cuts c.args.in_code (length c.args.bytes.now) c.loop.counter c.loop-test.true (state c.loop.so_far c.loop.built) c.args.after c.loop.rest.now _ c.loop.invariant.goes_on (sym c.ends_entry.ensures ∙ c.if-ends_entry.true) in
-    rw (c.cut-at_leaf.ensures, c.end_of.ensures) whole
+    rw (c.cut-at_leaf.ensures.gives, c.end_of.ensures) whole
 
 pub returns-in_err-token-clause-gives : goal.returns-in_err-token-clause-gives
 returns-in_err-token-clause-gives c =
@@ -21,12 +21,12 @@ returns-then-ends_all-clause-gives c =
 pub returns-in_err-so_far-clause-gives : goal.returns-in_err-so_far-clause-gives
 returns-in_err-so_far-clause-gives c =
     let p = err_from_is_err_and c.from_residual-in_err-so_far.result c.from_residual-in_err-so_far.ensures.1 in
-    rw (p.1, p.2) (no_step c.args.in_code (length c.args.bytes.now) c.loop.counter c.loop-test.true (state c.loop.so_far c.loop.built) c.args.after c.loop.rest.now _ c.loop.invariant.goes_on (sym c.ends_entry.ensures ∙ c.if-ends_entry.false) c.in_ok-token.token c.token_of.new.built c.in_ok-token.next.now c.in_err-so_far.field-0.0 c.in_ok-token.ensures.gives (sym c.ends_all.ensures ∙ c.if-ends_all.false) c.in_err-so_far.ensures)
+    rw (p.1, p.2) (no_step c.args.in_code (length c.args.bytes.now) c.loop.counter c.loop-test.true (state c.loop.so_far c.loop.built) c.args.after c.loop.rest.now _ c.loop.invariant.goes_on (sym c.ends_entry.ensures ∙ c.if-ends_entry.false) c.in_ok-token.token c.token_of.new.built c.in_ok-token.next.now c.in_err-so_far.field-0.0 c.in_ok-token.ensures.gives (sym c.ends_all.ensures ∙ c.if-ends_all.false) c.in_err-so_far.ensures.gives)
 
 pub loop-preserved : goal.loop-preserved
 loop-preserved c = record {
-  shorter = omega (arith, c.in_ok-token.ensures.shorter, c.loop.invariant.shorter);
-  goes_on = goes_on c.args.in_code (length c.args.bytes.now) c.loop.counter c.loop-test.true (state c.loop.so_far c.loop.built) c.args.after c.loop.rest.now _ c.loop.invariant.goes_on (sym c.ends_entry.ensures ∙ c.if-ends_entry.false) c.in_ok-token.token c.token_of.new.built c.in_ok-token.next.now (state c.in_ok-so_far.so_far c.taken.new.built) c.in_ok-token.ensures.gives (sym c.ends_all.ensures ∙ c.if-ends_all.false) c.in_ok-so_far.ensures;
+  room = omega (arith, c.in_ok-token.ensures.room, c.in_ok-so_far.ensures.room, c.loop.invariant.room);
+  goes_on = goes_on c.args.in_code (length c.args.bytes.now) c.loop.counter c.loop-test.true (state c.loop.so_far c.loop.built) c.args.after c.loop.rest.now _ c.loop.invariant.goes_on (sym c.ends_entry.ensures ∙ c.if-ends_entry.false) c.in_ok-token.token c.token_of.new.built c.in_ok-token.next.now (state c.in_ok-so_far.so_far c.taken.new.built) c.in_ok-token.ensures.gives (sym c.ends_all.ensures ∙ c.if-ends_all.false) c.in_ok-so_far.ensures.gives;
 }
 
 pub returns-clause-gives : goal.returns-clause-gives

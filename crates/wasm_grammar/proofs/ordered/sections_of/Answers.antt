@@ -26,7 +26,7 @@ loop-preserved c =
     let some : 0 < length c.loop.rest.now = omega (arith, eqb-false (length c.loop.rest.now) 0 (sym c.is_empty.ensures ∙ c.if-is_empty.false)) in
     let is_next = rw c.place_of-place.ensures at (sym c.follows.ensures ∙ c.if-not-follows.false) in
     record {
-      shorter = omega (arith, c.in_ok-held.ensures.shorter, c.loop.invariant.shorter);
+      room = omega (arith, c.in_ok-held.ensures.room, c.loop.invariant.room);
       so_far = rw (c.with_held-parts.ensures, c.last_behind-last.ensures, c.place_of-place.ensures) (next_of c.loop.parts (length c.args.bytes.now) c.loop.counter c.loop.last c.loop.built c.loop.rest.now _ c.loop.invariant.so_far c.loop-test.true some c.in_ok-held.held c.section_of.new.built c.in_ok-held.next.now c.in_ok-held.ensures.gives is_next);
     }
 

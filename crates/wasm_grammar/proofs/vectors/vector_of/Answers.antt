@@ -10,7 +10,7 @@ returns-in_err-item-clause-gives g c =
 
 pub loop-preserved : goal.loop-preserved
 loop-preserved g c = record {
-  shorter = omega (arith, c.in_ok-item.ensures.shorter, c.loop.invariant.shorter);
+  room = omega (arith, c.in_ok-item.ensures.room, c.loop.invariant.room);
   so_far = rw c.in_ok-push.ensures.ok (next_item g.T.Item.reading c.loop.items c.in_ok-count.count c.loop.counter c.loop.built c.args.after c.loop.rest.now _ c.loop.invariant.so_far c.loop-test.true c.in_ok-item.item c.read.new.built c.in_ok-item.next.now c.in_ok-item.ensures.gives);
 }
 
