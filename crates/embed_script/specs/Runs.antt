@@ -1,4 +1,4 @@
--- How a run at work stands for the definition's run. No public clause cites this.
+-- Private: how a run at work stands for the definition's run.
 use Rattle.std.specs.Prelude.{◌≡◌, ℕ, List, [], ◌∷◌, Result, Ok, Err, IfSome, IsSomeAnd, slice_get, string_bytes}
 use Rattle.small_parser.specs.declared.script.NodeId.{NodeId}
 use Rattle.small_parser.specs.declared.script.Form.{Form}

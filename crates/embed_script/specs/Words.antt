@@ -1,4 +1,4 @@
--- The arguments of a call, one after the other. No public clause cites this.
+-- Private: the arguments of a call, one after the other.
 use Rattle.std.specs.Prelude.{ℕ, List, Option, Some, None, Result, Ok}
 use Rattle.std.specs.declared.alloc.Global.{Global}
 use Rattle.std.specs.declared.vec.Vec.{Vec}

@@ -1,4 +1,4 @@
--- Worked cases of the definitions of `Bytes`, each by computation.
+-- Private: worked cases of the definitions of `Bytes`, each by computation.
 use Rattle.std.specs.Prelude.{◌≡◌, ℕ, List, [], ◌∷◌, refl}
 use Rattle.raw_memory.specs.Bytes.{zeros, run, replaced, number, low_bytes}
 
