@@ -120,4 +120,5 @@ def main():
             print(f"{shape}, {size} and 2 and 4 times as many: {times[0] * 1000:.0f} ms, ratios {ratios}")
 
 
-main()
+if __name__ == "__main__":
+    main()
