@@ -1,0 +1,94 @@
+//! A heap with its caches, which agree.
+ghost use Rattle.std.specs.Prelude.{◌≡◌, false};
+ghost use Rattle.iface_caches.specs.Whole.{is_cached_kind};
+
+use host_values::{Heap, HostValue, Kind, ObjId};
+use iface_caches::{Caches, Conversion, ExternalKind, laws};
+use std::alloc::{AllocError, Global};
+use std::marker::Model;
+use wasm_syntax::{FuncAddr, GlobalAddr, MemAddr, TableAddr, ValType, Value};
+
+#[derive(Drop)]
+pub struct Realm {
+    heap: Heap,
+    caches: Caches,
+}
+
+impl Model for Realm {
+    ghost use Rattle.host_values.specs.Objects.{HostHeap};
+    ghost use Rattle.iface_caches.specs.Caches.{HostCaches};
+    ghost use Rattle.iface_caches.specs.Agreement.{Agree};
+
+    ghost Value = { HostHeap × HostCaches };
+
+    ghost view = { λ r. (r.heap, r.caches) };
+
+    ghost invariant = { λ r. Agree r.heap r.caches };
+}
+
+impl Realm {
+    /// A heap with `print` alone, and nothing cached.
+    pub fn new(alloc: Global) -> Result<Realm, AllocError> {
+        laws::wholeness();
+        let heap = Heap::new(alloc, 0)?;
+        let caches = Caches::new(alloc);
+        Ok(Realm { heap, caches })
+    }
+
+    /// An object that is of no address.
+    pub fn add(&mut self, alloc: Global, kind: Kind) -> Result<ObjId, AllocError>
+        requires { is_cached_kind kind ≡ false }
+    {
+        laws::changes();
+        self.heap.add(alloc, kind)
+    }
+
+    /// The object of an address.
+    pub fn object(
+        &mut self,
+        alloc: Global,
+        kind: ExternalKind,
+        a: u64,
+    ) -> Result<ObjId, AllocError> {
+        let heap = &mut self.heap;
+        match kind {
+            ExternalKind::Function => self.caches.function_object(alloc, heap, FuncAddr(a)),
+            ExternalKind::Memory => self.caches.memory_object(alloc, heap, MemAddr(a)),
+            ExternalKind::Table => self.caches.table_object(alloc, heap, TableAddr(a)),
+            ExternalKind::Global => self.caches.global_object(alloc, heap, GlobalAddr(a)),
+        }
+    }
+
+    /// Whether an object is of this kind.
+    pub fn is(&self, object: ObjId, kind: Kind) -> bool {
+        self.heap.has_object(object) && *self.heap.kind(object) == kind
+    }
+
+    /// The address of a value of the host.
+    pub fn extern_addr(&mut self, alloc: Global, value: HostValue) -> Result<u64, AllocError> {
+        let a = self.caches.extern_addr(alloc, value)?;
+        Ok(a.0)
+    }
+
+    /// The value of a script; none where a reference has no value here.
+    pub fn to_host(&mut self, alloc: Global, v: Value) -> Result<Option<HostValue>, AllocError> {
+        if !self.caches.has_value(v) {
+            return Ok(None);
+        }
+        let value = self.caches.to_host(alloc, &mut self.heap, v)?;
+        Ok(Some(value))
+    }
+
+    /// The value of a module; none where the object isn't there.
+    pub fn to_wasm(
+        &mut self,
+        alloc: Global,
+        v: &HostValue,
+        ty: ValType,
+    ) -> Option<Result<Value, Conversion>> {
+        if !self.heap.has_value(v) {
+            return None;
+        }
+        Some(self.caches.to_wasm(alloc, &self.heap, v, ty))
+    }
+}

@@ -1,0 +1,6 @@
+mod Lists
+mod Equal
+mod Indexed
+mod Agreeing
+mod LawLemmas
+mod WholeLemmas
