@@ -30,7 +30,7 @@ use Rattle.iface_caches.specs.Caches.{HostCaches, cache_of, cached, extern_of, h
 use Rattle.iface_caches.specs.Agreement.{Agree}
 use Rattle.iface_caches.specs.Conversions.{IsCached, as_value, caches_with, function_reference, heap_with, to_externref, to_funcref, to_js, with_converted, with_reference}
 use Rattle.iface_caches.specs.Whole.{HoldsCached, IsWhole, count_of, is_cached_kind}
-use Rattle.iface_caches.specs.Laws.{ConversionsStayWhole, ConvertedIsTyped, ExternsStayWhole, LaterStoresStayWhole, NothingIsWhole, ObjectsStayWhole, OtherObjectsStayWhole, ShownIsLive, WritingStaysWhole}
+use Rattle.iface_caches.specs.Laws.{ConversionsStayWhole, ConvertedIsTyped, ExternsStayWhole, LaterStoresStayWhole, NothingAgrees, NothingIsWhole, ObjectsStayWhole, OtherObjectsAgree, OtherObjectsStayWhole, ShownIsLive, WritingAgrees, WritingStaysWhole}
 use Rattle.iface_caches.proofs.Lists.{get_pushed}
 use Rattle.iface_caches.proofs.Agreeing.{agree_extern, agree_object, cache_before, kind_before, kind_kept, objects_of_extern, same_externs}
 use Rattle.iface_caches.proofs.LawLemmas.{extern_is_at_address, object_is_of_address, of_function}
@@ -78,9 +78,12 @@ no_kind external.Table a zero is = cc
 no_kind external.Global a zero is = cc
 no_kind k a (suc n) is = cc
 
+pub nothing_agrees : NothingAgrees
+nothing_agrees globals = record { named = λ k a o is. absurd (no_object k a o is); found = λ k a o is. absurd (no_kind k a o.0 is) }
+
 pub nothing_is_whole : NothingIsWhole
 nothing_is_whole globals = record {
-    agree = record { named = λ k a o is. absurd (no_object k a o is); found = λ k a o is. absurd (no_kind k a o.0 is) };
+    agree = nothing_agrees globals;
     addresses = λ k a o is. absurd (no_object k a o is);
     externs = λ n v is. absurd cc;
     held = record { tables = All-nil _; globals = All-nil _; elements = All-nil _ } }
@@ -200,8 +203,8 @@ is_of external.Memory a = refl
 is_of external.Table a = refl
 is_of external.Global a = refl
 
-other_agrees : (h : HostHeap) (c : HostCaches) (k : Kind) (properties : List (Key × HostValue)) → is_cached_kind k ≡ false → Agree h c → Agree (with_object h k properties) c
-other_agrees h c k properties other agree = record {
+pub other_objects_agree : OtherObjectsAgree
+other_objects_agree h c k properties other agree = record {
     named = λ l b o is. kind_kept h k properties (kind_of l b) o (agree.named l b o is);
     found = λ l b o is. found l b o (kind_before h k properties (kind_of l b) o is) }
   where
@@ -210,14 +213,14 @@ other_agrees h c k properties other agree = record {
     found l b o (inr is) = let both : false ≡ true = sym other ∙ ap is_cached_kind is.1 ∙ is_of l b in absurd cc
 
 pub other_objects_stay_whole : OtherObjectsStayWhole
-other_objects_stay_whole h s c k properties other = (other_agrees h c k properties other, λ whole. record {
-    agree = other_agrees h c k properties other whole.agree;
+other_objects_stay_whole h s c k properties other whole = record {
+    agree = other_objects_agree h c k properties other whole.agree;
     addresses = whole.addresses;
     externs = λ n v is. live_more h (with_object h k properties) (one_more h k properties) v (whole.externs n v is);
-    held = whole.held })
+    held = whole.held }
 
-written_agrees : (h g : HostHeap) (c : HostCaches) → ((o : ObjId) → kind_at g o ≡ kind_at h o) → Agree h c → Agree g c
-written_agrees h g c same agree = record { named = λ k a o is. same o ∙ agree.named k a o is; found = λ k a o is. agree.found k a o (sym (same o) ∙ is) }
+pub writing_agrees : WritingAgrees
+writing_agrees h g c same agree = record { named = λ k a o is. same o ∙ agree.named k a o is; found = λ k a o is. agree.found k a o (sym (same o) ∙ is) }
 
 written_live : (h g : HostHeap) → ((o : ObjId) → (IsLive h o → IsLive g o) × (kind_at g o ≡ kind_at h o)) → (v : HostValue) → IsLiveValue h v → IsLiveValue g v
 written_live h g same (values.Object o) live = (same o).0 live
@@ -229,11 +232,11 @@ written_live h g same (values.BigInt z) live = live
 written_live h g same (values.Text t) live = live
 
 pub writing_stays_whole : WritingStaysWhole
-writing_stays_whole h g s c same = (written_agrees h g c (λ o. (same o).1), λ whole. record {
-    agree = written_agrees h g c (λ o. (same o).1) whole.agree;
+writing_stays_whole h g s c same whole = record {
+    agree = writing_agrees h g c (λ o. (same o).1) whole.agree;
     addresses = whole.addresses;
     externs = λ n v is. written_live h g same v (whole.externs n v is);
-    held = whole.held })
+    held = whole.held }
 
 more_things : (s t : Store) → stores.IsLater s t → (k : ExternalKind) → count_of s k ≤ count_of t k
 more_things s t later external.Function = later.functions.count

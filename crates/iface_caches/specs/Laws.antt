@@ -79,6 +79,9 @@ ShownIsLive = (h : HostHeap) (s : Store) (c : HostCaches) (r : Value) → IsWhol
 -- ---- wholeness
 
 -- at the beginning
+abbrev pub NothingAgrees : Type 0
+NothingAgrees = (globals : ℕ) → Agree (fresh_heap globals) no_caches
+
 abbrev pub NothingIsWhole : Type 0
 NothingIsWhole = (globals : ℕ) → IsWhole (fresh_heap globals) empty_store no_caches
 
@@ -97,14 +100,18 @@ ConversionsStayWhole = (h : HostHeap) (s : Store) (c : HostCaches) → IsWhole h
     × ((v : HostValue) (ty : ValType) → IsLiveValue h v → IsWhole h s (with_converted v ty c))
 
 -- an object that is of no address is added
-abbrev pub OtherObjectsStayWhole : Type 0
-OtherObjectsStayWhole = (h : HostHeap) (s : Store) (c : HostCaches) (k : Kind) (properties : List (Key × HostValue)) → is_cached_kind k ≡ false
-    → (Agree h c → Agree (with_object h k properties) c) × (IsWhole h s c → IsWhole (with_object h k properties) s c)
+abbrev pub OtherObjectsAgree : Type 0
+OtherObjectsAgree = (h : HostHeap) (c : HostCaches) (k : Kind) (properties : List (Key × HostValue)) → is_cached_kind k ≡ false → Agree h c → Agree (with_object h k properties) c
 
--- objects are written
+abbrev pub OtherObjectsStayWhole : Type 0
+OtherObjectsStayWhole = (h : HostHeap) (s : Store) (c : HostCaches) (k : Kind) (properties : List (Key × HostValue)) → is_cached_kind k ≡ false → IsWhole h s c → IsWhole (with_object h k properties) s c
+
+-- objects are written, and stay live and of their kinds
+abbrev pub WritingAgrees : Type 0
+WritingAgrees = (h g : HostHeap) (c : HostCaches) → ((o : ObjId) → kind_at g o ≡ kind_at h o) → Agree h c → Agree g c
+
 abbrev pub WritingStaysWhole : Type 0
-WritingStaysWhole = (h g : HostHeap) (s : Store) (c : HostCaches) → ((o : ObjId) → (IsLive h o → IsLive g o) × (kind_at g o ≡ kind_at h o))
-    → (Agree h c → Agree g c) × (IsWhole h s c → IsWhole g s c)
+WritingStaysWhole = (h g : HostHeap) (s : Store) (c : HostCaches) → ((o : ObjId) → (IsLive h o → IsLive g o) × (kind_at g o ≡ kind_at h o)) → IsWhole h s c → IsWhole g s c
 
 -- the store changes
 abbrev pub LaterStoresStayWhole : Type 0

@@ -1,5 +1,5 @@
 //! Laws of the caches for their callers, as contracts of functions that do nothing.
-ghost use Rattle.iface_caches.specs.Laws.{ConversionsStayWhole, ConvertedIsTyped, ExternIsAtAddress, ExternIsFoundAgain, ExternsAreOnePerValue, ExternsComeBack, ExternsStayWhole, FunctionsComeBack, LaterStays, LaterStoresStayWhole, NothingChanges, NothingIsWhole, ObjectIsFoundAgain, ObjectIsOfAddress, ObjectsDiffer, ObjectsStayWhole, OtherObjectsStayWhole, ShownIsLive, WritingStaysWhole};
+ghost use Rattle.iface_caches.specs.Laws.{ConversionsStayWhole, ConvertedIsTyped, ExternIsAtAddress, ExternIsFoundAgain, ExternsAreOnePerValue, ExternsComeBack, ExternsStayWhole, FunctionsComeBack, LaterStays, LaterStoresStayWhole, NothingAgrees, NothingChanges, NothingIsWhole, ObjectIsFoundAgain, ObjectIsOfAddress, ObjectsDiffer, ObjectsStayWhole, OtherObjectsAgree, OtherObjectsStayWhole, ShownIsLive, WritingAgrees, WritingStaysWhole};
 
 /// Each call leaves later caches, and what is later than those is later than the first.
 pub fn order()
@@ -31,6 +31,7 @@ pub fn conversions()
 
 /// Each call keeps heap, store and caches whole.
 pub fn wholeness()
+    ensures nothing_agrees { NothingAgrees }
     ensures nothing { NothingIsWhole }
     ensures objects { ObjectsStayWhole }
     ensures externs { ExternsStayWhole }
@@ -39,7 +40,9 @@ pub fn wholeness()
 
 /// So does what else happens to a heap and a store.
 pub fn changes()
+    ensures other_objects_agree { OtherObjectsAgree }
     ensures other_objects { OtherObjectsStayWhole }
+    ensures writing_agrees { WritingAgrees }
     ensures writing { WritingStaysWhole }
     ensures later_stores { LaterStoresStayWhole }
 {}
