@@ -104,7 +104,7 @@ fn are_functions(realm: &mut Realm, alloc: Global, count: u64) -> Result<bool, A
 fn many_functions(rt: HostRuntime) -> Result<(), Fail> {
     let alloc = rt.alloc();
     let mut realm = Realm::new(alloc)?;
-    assert!(rt; are_functions(&mut realm, alloc, 100_000)?, "new objects");
-    assert!(rt; are_functions(&mut realm, alloc, 100_000)?, "the same ones");
+    assert!(rt; are_functions(&mut realm, alloc, 50_000)?, "new objects");
+    assert!(rt; are_functions(&mut realm, alloc, 50_000)?, "the same ones");
     Ok(())
 }
