@@ -9,7 +9,7 @@ use std::marker::Model;
 use wasm_syntax::{FuncAddr, GlobalAddr, MemAddr, TableAddr, ValType, Value};
 
 #[derive(Drop)]
-pub struct Realm {
+pub(crate) struct Realm {
     heap: Heap,
     caches: Caches,
 }
@@ -28,7 +28,7 @@ impl Model for Realm {
 
 impl Realm {
     /// A heap with `print` alone, and nothing cached.
-    pub fn new(alloc: Global) -> Result<Realm, AllocError> {
+    pub(crate) fn new(alloc: Global) -> Result<Realm, AllocError> {
         laws::wholeness();
         let heap = Heap::new(alloc, 0)?;
         let caches = Caches::new(alloc);
@@ -36,7 +36,7 @@ impl Realm {
     }
 
     /// An object that is of no address.
-    pub fn add(&mut self, alloc: Global, kind: Kind) -> Result<ObjId, AllocError>
+    pub(crate) fn add(&mut self, alloc: Global, kind: Kind) -> Result<ObjId, AllocError>
         requires { is_cached_kind kind ≡ false }
     {
         laws::changes();
@@ -44,7 +44,7 @@ impl Realm {
     }
 
     /// The object of an address.
-    pub fn object(
+    pub(crate) fn object(
         &mut self,
         alloc: Global,
         kind: ExternalKind,
@@ -60,18 +60,18 @@ impl Realm {
     }
 
     /// Whether an object is of this kind.
-    pub fn is(&self, object: ObjId, kind: Kind) -> bool {
+    pub(crate) fn is(&self, object: ObjId, kind: Kind) -> bool {
         self.heap.has_object(object) && *self.heap.kind(object) == kind
     }
 
     /// The address of a value of the host.
-    pub fn extern_addr(&mut self, alloc: Global, value: HostValue) -> Result<u64, AllocError> {
+    pub(crate) fn extern_addr(&mut self, alloc: Global, value: HostValue) -> Result<u64, AllocError> {
         let a = self.caches.extern_addr(alloc, value)?;
         Ok(a.0)
     }
 
     /// The value of a script; none where a reference has no value here.
-    pub fn to_host(&mut self, alloc: Global, v: Value) -> Result<Option<HostValue>, AllocError> {
+    pub(crate) fn to_host(&mut self, alloc: Global, v: Value) -> Result<Option<HostValue>, AllocError> {
         if !self.caches.has_value(v) {
             return Ok(None);
         }
@@ -80,7 +80,7 @@ impl Realm {
     }
 
     /// The value of a module; none where the object isn't there.
-    pub fn to_wasm(
+    pub(crate) fn to_wasm(
         &mut self,
         alloc: Global,
         v: &HostValue,

@@ -1,5 +1,5 @@
 -- Heap and caches after the object of an address, or the address of a value of the host, was asked for.
-use Rattle.std.proofs.Common.{◌≡◌, ℕ, ◌⊎◌, inl, inr, Bool, true, false, List, [], ◌∷◌, ◌++◌, cond, nat_eq, Option, Some, None, slice_get, Result, Ok, Err, OnOk, OnErr, refl, sym, ap, subst, ◌∙◌, arith}
+use Rattle.std.proofs.Common.{◌≡◌, ℕ, ◌⊎◌, inl, inr, Bool, true, false, List, [], ◌∷◌, ◌++◌, cond, nat_eq, Option, Some, None, slice_get, Result, Ok, Err, OnOk, OnErr, refl, sym, ap, subst, ◌∙◌}
 use Rattle.std.specs.Option.{option_map, option_map_or}
 use Rattle.std.specs.Map.{lookup}
 use Rattle.std.proofs.lemmas.Bool.{eqb-true, eq-eqb}
@@ -18,7 +18,7 @@ use Rattle.host_values.specs.declared.values.HostValue.{HostValue}
 use Rattle.host_values.specs.declared.values.HostValue.TheVariants as values
 use Rattle.iface_caches.specs.declared.external.ExternalKind.{ExternalKind}
 use Rattle.iface_caches.specs.declared.external.ExternalKind.TheVariants as external
-use Rattle.iface_caches.specs.Caches.{Cache, HostCaches, cache_of, cached, heap_with_object_of, kind_of, object_of, place_of, with_cache, with_extern, with_object_of}
+use Rattle.iface_caches.specs.Caches.{Cache, HostCaches, cache_of, cached, heap_with_object_of, kind_of, place_of, with_cache, with_extern, with_object_of}
 use Rattle.iface_caches.specs.Agreement.{Agree, IsLater}
 use Rattle.iface_caches.specs.Conversions.{caches_with, heap_with, with_converted, with_reference}
 use Rattle.iface_caches.proofs.Lists.{get_last, get_left, get_pushed, lookup_kept, lookup_last}
@@ -145,6 +145,7 @@ module _ (h : HostHeap) (k : Kind) (properties : List (Key × HostValue)) where
     where
       found : (x : HostObject) × (slice_get (h.objects ++ record { kind = k; properties = properties } ∷ []) o.0 ≡ Some x) × (x.kind ≡ l)
       found = kind_of_found (slice_get (h.objects ++ record { kind = k; properties = properties } ∷ []) o.0) l is
+
       by : (slice_get h.objects o.0 ≡ Some found.0) ⊎ ((o.0 ≡ (next_object h).0) × (found.0 ≡ record { kind = k; properties = properties })) → (kind_at h o ≡ Some l) ⊎ ((o ≡ next_object h) × (k ≡ l))
       by (inl g) = inl (ap (option_map (λ x. x.kind)) g ∙ ap Some found.2)
       by (inr g) = inr (ap (λ n. record { 0 = n }) g.0, sym (ap (λ x. x.kind) g.1) ∙ found.2)
@@ -158,6 +159,7 @@ agree_added h c k a agree absent = record { named = λ l b o is. named l b o (ca
     named : (l : ExternalKind) (b : ℕ) (o : ObjId) → (cached c l b ≡ Some o) ⊎ ((k ≡ l) × (a ≡ b) × (next_object h ≡ o)) → kind_at (with_object h (kind_of k a) []) o ≡ Some (kind_of l b)
     named l b o (inl is) = kind_kept h (kind_of k a) [] (kind_of l b) o (agree.named l b o is)
     named l b o (inr is) = sym (ap (kind_at (with_object h (kind_of k a) [])) is.2) ∙ kind_new h (kind_of k a) [] ∙ ap Some (ap (λ j. kind_of j a) is.0 ∙ ap (kind_of l) is.1)
+
     found : (l : ExternalKind) (b : ℕ) (o : ObjId) → (kind_at h o ≡ Some (kind_of l b)) ⊎ ((o ≡ next_object h) × (kind_of k a ≡ kind_of l b)) → cached (with_cache k (cache_of c k ++ (a, next_object h) ∷ []) c) l b ≡ Some o
     found l b o (inl is) = cache_kept c k l ((a, next_object h) ∷ []) b o (agree.found l b o is)
     found l b o (inr is) =
@@ -166,8 +168,9 @@ agree_added h c k a agree absent = record { named = λ l b o is. named l b o (ca
 
 later_added : (c : HostCaches) (k : ExternalKind) (more : Cache) → IsLater c (with_cache k (cache_of c k ++ more) c)
 later_added c k more = record {
-    objects = λ l a o is. cache_kept c k l more a o is;
-    externs = λ n v is. ap (λ vs. slice_get vs n) (same_externs c k (cache_of c k ++ more)) ∙ is }
+  objects = λ l a o is. cache_kept c k l more a o is;
+  externs = λ n v is. ap (λ vs. slice_get vs n) (same_externs c k (cache_of c k ++ more)) ∙ is;
+}
 
 pub later_itself : (c : HostCaches) → IsLater c c
 later_itself c = record { objects = λ k a o is. is; externs = λ n v is. is }
@@ -232,8 +235,9 @@ objects_of_extern c v k a = by (place_of v c.externs)
 
 pub agree_extern : (h : HostHeap) (c : HostCaches) (v : HostValue) → Agree h c → Agree h (with_extern v c)
 agree_extern h c v agree = record {
-    named = λ k a o is. agree.named k a o (sym (objects_of_extern c v k a) ∙ is);
-    found = λ k a o is. objects_of_extern c v k a ∙ agree.found k a o is }
+  named = λ k a o is. agree.named k a o (sym (objects_of_extern c v k a) ∙ is);
+  found = λ k a o is. objects_of_extern c v k a ∙ agree.found k a o is;
+}
 
 -- ---- conversions
 

@@ -1,5 +1,5 @@
 -- Strict equality is equality of values, and the order's ties are its own.
-use Rattle.std.proofs.Common.{◌≡◌, ℕ, Bool, true, false, List, refl, sym, ap, subst, ◌∙◌}
+use Rattle.std.proofs.Common.{◌≡◌, ℕ, true, false, refl, sym, ap, ◌∙◌}
 use Rattle.std.specs.Cmp.{unsigned_Decides}
 use Rattle.std.specs.Prelude.{pos, nat_eq}
 use Rattle.std.specs.Bool.{one_answer}

@@ -1,6 +1,6 @@
 -- The map of places after a value went to the end of the list.
-use Rattle.std.proofs.Common.{◌≡◌, ℕ, zero, suc, ◌+◌, ◌<◌, ◌⊎◌, inl, inr, Bool, true, false, cond, List, [], ◌∷◌, ◌++◌, length, Option, Some, None, slice_get, if◌then◌else◌, refl, sym, ap, subst, ◌∙◌, arith}
-use Rattle.std.specs.Option.{option_map, option_map_or}
+use Rattle.std.proofs.Common.{◌≡◌, ℕ, zero, suc, ◌⊎◌, inl, inr, Bool, true, false, cond, List, [], ◌∷◌, ◌++◌, length, Option, Some, None, slice_get, if◌then◌else◌, refl, sym, ap, subst, ◌∙◌}
+use Rattle.std.specs.Option.{option_map}
 use Rattle.std.specs.Ordering.{is_eq}
 use Rattle.std.specs.Map.{lookup}
 use Rattle.host_values.specs.declared.values.HostValue.{HostValue}
@@ -8,7 +8,7 @@ use Rattle.host_convert.specs.Operators.{is_strictly_equal}
 use Rattle.iface_caches.specs.Caches.{AreDistinct, place_of}
 use Rattle.iface_caches.specs.KeyOrder.{IsIndexed, key_cmp}
 use Rattle.iface_caches.specs.declared.extern_key.ExternKey.{ExternKey}
-use Rattle.iface_caches.proofs.Lists.{get_last, get_left, get_pushed}
+use Rattle.iface_caches.proofs.Lists.{get_pushed}
 use Rattle.iface_caches.proofs.Equal.{equal_back, equal_itself, equal_same, ties}
 
 -- a value's place is one where it stands
@@ -93,17 +93,18 @@ pub indexed_more : (es fs : List (ExternKey × ℕ)) (vs : List HostValue) (k : 
     → ((q : ExternKey) → lookup (λ p. is_eq (key_cmp q p)) fs ≡ cond (is_eq (key_cmp k q)) (Some (length vs)) (lookup (λ p. is_eq (key_cmp q p)) es))
     → IsIndexed fs (vs ++ k.value ∷ [])
 indexed_more es fs vs k old absent update = record {
-    places = λ q. update q ∙ ap (λ b. cond b (Some (length vs)) (lookup (λ p. is_eq (key_cmp q p)) es)) (ties k.value q.value)
-        ∙ ap (cond (is_strictly_equal k.value q.value) (Some (length vs))) (old.places q)
-        ∙ places_more (is_strictly_equal k.value q.value) k.value q.value vs (place_of q.value vs) absent refl refl;
-    distinct = distinct_more vs k.value old.distinct absent }
+  places = λ q. update q ∙ ap (λ b. cond b (Some (length vs)) (lookup (λ p. is_eq (key_cmp q p)) es)) (ties k.value q.value)
+      ∙ ap (cond (is_strictly_equal k.value q.value) (Some (length vs))) (old.places q)
+      ∙ places_more (is_strictly_equal k.value q.value) k.value q.value vs (place_of q.value vs) absent refl refl;
+  distinct = distinct_more vs k.value old.distinct absent;
+}
 
 pub indexed_after : (es fs : List (ExternKey × ℕ)) (vs ws : List HostValue) (k : ExternKey) (n : ℕ) (x : HostValue) → IsIndexed es vs → place_of k.value vs ≡ None → n ≡ length vs → x ≡ k.value → ws ≡ vs ++ x ∷ []
     → ((q : ExternKey) → lookup (λ p. is_eq (key_cmp q p)) fs ≡ cond (is_eq (key_cmp k q)) (Some n) (lookup (λ p. is_eq (key_cmp q p)) es))
     → IsIndexed fs ws
 indexed_after es fs vs ws k n x old absent count one all update =
     subst (IsIndexed fs) (ap (λ y. vs ++ y ∷ []) (sym one) ∙ sym all)
-        (indexed_more es fs vs k old absent (λ q. update q ∙ ap (λ m. cond (is_eq (key_cmp k q)) (Some m) (lookup (λ p. is_eq (key_cmp q p)) es)) count))
+    (indexed_more es fs vs k old absent (λ q. update q ∙ ap (λ m. cond (is_eq (key_cmp k q)) (Some m) (lookup (λ p. is_eq (key_cmp q p)) es)) count))
 
 -- where a value stands is its place
 pub place_found : (v : HostValue) (vs : List HostValue) (n : ℕ) → AreDistinct vs → slice_get vs n ≡ Some v → place_of v vs ≡ Some n

@@ -1,10 +1,9 @@
 -- The laws of the caches.
-use Rattle.std.proofs.Common.{◌≡◌, ℕ, ◌<◌, ◌↔◌, true, false, List, [], ◌∷◌, ◌++◌, length, Option, Some, None, slice_get, slice_index_or, refl, sym, ap, subst, ◌∙◌, arith}
+use Rattle.std.proofs.Common.{◌≡◌, ℕ, true, [], ◌∷◌, ◌++◌, length, Option, Some, None, slice_get, refl, sym, ap, subst, ◌∙◌}
 use Rattle.std.specs.Option.{option_map_or}
 use Rattle.std.proofs.lemmas.Option.{slice_get_within, get_or_from_slice_get}
 use Rattle.wasm_syntax.specs.declared.value.Value.{Value}
 use Rattle.wasm_syntax.specs.declared.value.Value.TheVariants as w
-use Rattle.wasm_syntax.specs.declared.types.ValType.TheVariants as types
 use Rattle.wasm_syntax.specs.declared.addresses.ExternAddr.{ExternAddr}
 use Rattle.host_values.specs.Objects.{HostHeap}
 use Rattle.host_values.specs.Heaps.{IsLive, kind_at, next_object, with_object}
@@ -18,9 +17,9 @@ use Rattle.host_convert.specs.Operators.{is_strictly_equal}
 use Rattle.host_convert.specs.declared.conv.Conv.TheVariants as conv
 use Rattle.iface_caches.specs.declared.external.ExternalKind.{ExternalKind}
 use Rattle.iface_caches.specs.declared.external.ExternalKind.TheVariants as external
-use Rattle.iface_caches.specs.Caches.{AreDistinct, HostCaches, cache_of, cached, extern_of, heap_with_object_of, kind_of, object_of, place_of, with_cache, with_extern, with_object_of}
+use Rattle.iface_caches.specs.Caches.{HostCaches, cache_of, cached, extern_of, heap_with_object_of, kind_of, object_of, place_of, with_cache, with_extern}
 use Rattle.iface_caches.specs.Agreement.{Agree, IsLater}
-use Rattle.iface_caches.specs.Conversions.{function_reference, to_externref, to_funcref, to_js, with_reference}
+use Rattle.iface_caches.specs.Conversions.{function_reference, to_externref, to_js, with_reference}
 use Rattle.iface_caches.specs.Laws.{ExternIsAtAddress, ExternIsFoundAgain, ExternsAreOnePerValue, ExternsComeBack, FunctionsComeBack, LaterStays, NothingChanges, ObjectIsFoundAgain, ObjectIsOfAddress, ObjectsDiffer}
 use Rattle.iface_caches.proofs.Lists.{get_last}
 use Rattle.iface_caches.proofs.Equal.{equal_itself, equal_same}
@@ -44,6 +43,7 @@ object_is_of_address h c k a agree = (is, live_of_kind (heap_with_object_of c k 
     by : (r : Option ObjId) → cached c k a ≡ r → kind_at (option_map_or (λ o. h) r (with_object h (kind_of k a) [])) (option_map_or (λ o. o) r (next_object h)) ≡ Some (kind_of k a)
     by None e = kind_new h (kind_of k a) []
     by (Some o) e = agree.named k a o e
+
     is : kind_at (heap_with_object_of c k a h) (object_of h c k a) ≡ Some (kind_of k a)
     is = by (cached c k a) refl
 
@@ -54,10 +54,11 @@ found_again h c d k a (Some o) e later = later.objects k a o e
 
 pub object_is_found_again : ObjectIsFoundAgain
 object_is_found_again h g c d k a later =
-    let found = found_again h c d k a (cached c k a) refl later in
-    (ap (λ (r : Option ObjId). option_map_or (λ o. o) r (next_object g)) found,
-     ap (λ (r : Option ObjId). option_map_or (λ o. d) r (with_cache k (cache_of d k ++ (a, next_object g) ∷ []) d)) found,
-     ap (λ (r : Option ObjId). option_map_or (λ o. g) r (with_object g (kind_of k a) [])) found)
+    let found = found_again h c d k a (cached c k a) refl later in (
+      ap (λ (r : Option ObjId). option_map_or (λ o. o) r (next_object g)) found,
+      ap (λ (r : Option ObjId). option_map_or (λ o. d) r (with_cache k (cache_of d k ++ (a, next_object g) ∷ []) d)) found,
+      ap (λ (r : Option ObjId). option_map_or (λ o. g) r (with_object g (kind_of k a) [])) found,
+    )
 
 pub objects_differ : ObjectsDiffer
 objects_differ h c k l a b o agree p q =
@@ -99,6 +100,7 @@ externs_are_one_per_value c v x = (there, back)
         let both : Some v ≡ Some x = sym its ∙ sym (ap (λ (e : ExternAddr). slice_get (with_extern x d).externs e.0) same) ∙ mine in
         let one : v ≡ x = cc in
         subst (λ y. is_strictly_equal v y ≡ true) one (equal_itself v)
+
     back : is_strictly_equal v x ≡ true → extern_of (with_extern v c) x ≡ extern_of c v
     back same = subst (λ y. extern_of (with_extern v c) y ≡ extern_of c v) (equal_same v x same) (same_again c v (place_of v c.externs) refl)
 

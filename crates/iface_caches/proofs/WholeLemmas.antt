@@ -9,11 +9,11 @@ use Rattle.wasm_syntax.specs.declared.value.Value.{Value}
 use Rattle.wasm_syntax.specs.declared.value.Value.TheVariants as w
 use Rattle.wasm_syntax.specs.declared.types.ValType.{ValType}
 use Rattle.wasm_syntax.specs.declared.types.ValType.TheVariants as types
-use Rattle.wasm_store.specs.Store.{Store, TableInst, empty_store}
+use Rattle.wasm_store.specs.Store.{Store, TableInst}
 use Rattle.wasm_store.specs.declared.instances.GlobalInst.{GlobalInst}
 use Rattle.wasm_store.specs.Whole as stores
 use Rattle.host_values.specs.Objects.{HostHeap, HostObject}
-use Rattle.host_values.specs.Heaps.{IsLive, IsLiveValue, fresh_heap, kind_at, next_object, with_object}
+use Rattle.host_values.specs.Heaps.{IsLive, IsLiveValue, kind_at, next_object, with_object}
 use Rattle.host_values.specs.declared.keys.Key.{Key}
 use Rattle.host_values.specs.declared.kinds.Kind.{Kind}
 use Rattle.host_values.specs.declared.kinds.Kind.TheVariants as kinds
@@ -26,9 +26,9 @@ use Rattle.host_convert.specs.declared.conv.Conv.{Conv}
 use Rattle.host_convert.specs.declared.conv.Conv.TheVariants as conv
 use Rattle.iface_caches.specs.declared.external.ExternalKind.{ExternalKind}
 use Rattle.iface_caches.specs.declared.external.ExternalKind.TheVariants as external
-use Rattle.iface_caches.specs.Caches.{HostCaches, cache_of, cached, extern_of, heap_with_object_of, kind_of, no_caches, object_of, place_of, with_cache, with_extern, with_object_of}
+use Rattle.iface_caches.specs.Caches.{HostCaches, cache_of, cached, extern_of, kind_of, no_caches, place_of, with_cache, with_extern}
 use Rattle.iface_caches.specs.Agreement.{Agree}
-use Rattle.iface_caches.specs.Conversions.{IsCached, as_value, caches_with, function_reference, heap_with, to_externref, to_funcref, to_js, with_converted, with_reference}
+use Rattle.iface_caches.specs.Conversions.{IsCached, as_value, caches_with, heap_with, to_externref, to_funcref, with_converted, with_reference}
 use Rattle.iface_caches.specs.Whole.{HoldsCached, IsWhole, count_of, is_cached_kind}
 use Rattle.iface_caches.specs.Laws.{ConversionsStayWhole, ConvertedIsTyped, ExternsStayWhole, LaterStoresStayWhole, NothingAgrees, NothingIsWhole, ObjectsStayWhole, OtherObjectsAgree, OtherObjectsStayWhole, ShownIsLive, WritingAgrees, WritingStaysWhole}
 use Rattle.iface_caches.proofs.Lists.{get_pushed}
@@ -47,9 +47,10 @@ cached_more c d more w.ExternNull h = h
 
 held_more : (s : Store) (c d : HostCaches) → length c.externs ≤ length d.externs → HoldsCached s c → HoldsCached s d
 held_more s c d more held = record {
-    tables = All-weaker (λ (t : TableInst). All (IsCached c) t.entries) (λ (t : TableInst). All (IsCached d) t.entries) (λ t h. All-weaker (IsCached c) (IsCached d) (cached_more c d more) t.entries h) s.tables held.tables;
-    globals = All-weaker (λ (g : GlobalInst). IsCached c g.value) (λ (g : GlobalInst). IsCached d g.value) (λ g h. cached_more c d more g.value h) s.globals held.globals;
-    elements = All-weaker (All (IsCached c)) (All (IsCached d)) (λ vs h. All-weaker (IsCached c) (IsCached d) (cached_more c d more) vs h) s.elements held.elements }
+  tables = All-weaker (λ (t : TableInst). All (IsCached c) t.entries) (λ (t : TableInst). All (IsCached d) t.entries) (λ t h. All-weaker (IsCached c) (IsCached d) (cached_more c d more) t.entries h) s.tables held.tables;
+  globals = All-weaker (λ (g : GlobalInst). IsCached c g.value) (λ (g : GlobalInst). IsCached d g.value) (λ g h. cached_more c d more g.value h) s.globals held.globals;
+  elements = All-weaker (All (IsCached c)) (All (IsCached d)) (λ vs h. All-weaker (IsCached c) (IsCached d) (cached_more c d more) vs h) s.elements held.elements;
+}
 
 live_more : (h g : HostHeap) → length h.objects ≤ length g.objects → (v : HostValue) → IsLiveValue h v → IsLiveValue g v
 live_more h g more (values.Object o) live = omega (arith, more, live)
@@ -83,10 +84,11 @@ nothing_agrees globals = record { named = λ k a o is. absurd (no_object k a o i
 
 pub nothing_is_whole : NothingIsWhole
 nothing_is_whole globals = record {
-    agree = nothing_agrees globals;
-    addresses = λ k a o is. absurd (no_object k a o is);
-    externs = λ n v is. absurd cc;
-    held = record { tables = All-nil _; globals = All-nil _; elements = All-nil _ } }
+  agree = nothing_agrees globals;
+  addresses = λ k a o is. absurd (no_object k a o is);
+  externs = λ n v is. absurd cc;
+  held = record { tables = All-nil _; globals = All-nil _; elements = All-nil _ };
+}
 
 -- ---- objects of addresses
 
@@ -96,15 +98,17 @@ objects_stay_whole h s c k a whole live = by (cached c k a) (agree_object h c k 
     addresses : (l : ExternalKind) (b : ℕ) (o : ObjId) → (cached c l b ≡ Some o) ⊎ ((k ≡ l) × (a ≡ b) × (next_object h ≡ o)) → b < count_of s l
     addresses l b o (inl is) = whole.addresses l b o is
     addresses l b o (inr is) = subst (λ j. b < count_of s j) is.0 (subst (λ m. m < count_of s k) is.1 live)
+
     by : (r : Option ObjId) → Agree (option_map_or (λ o. h) r (with_object h (kind_of k a) [])) (option_map_or (λ o. c) r (with_cache k (cache_of c k ++ (a, next_object h) ∷ []) c))
         → IsWhole (option_map_or (λ o. h) r (with_object h (kind_of k a) [])) s (option_map_or (λ o. c) r (with_cache k (cache_of c k ++ (a, next_object h) ∷ []) c))
     by None agree =
         let same = same_externs c k (cache_of c k ++ (a, next_object h) ∷ []) in
         record {
-            agree = agree;
-            addresses = λ l b o is. addresses l b o (cache_before c k l a b (next_object h) o is);
-            externs = λ n v is. live_more h (with_object h (kind_of k a) []) (one_more h (kind_of k a) []) v (whole.externs n v (sym (ap (λ vs. slice_get vs n) same) ∙ is));
-            held = held_more s c (with_cache k (cache_of c k ++ (a, next_object h) ∷ []) c) (let count = ap length same in omega (arith, count)) whole.held }
+          agree = agree;
+          addresses = λ l b o is. addresses l b o (cache_before c k l a b (next_object h) o is);
+          externs = λ n v is. live_more h (with_object h (kind_of k a) []) (one_more h (kind_of k a) []) v (whole.externs n v (sym (ap (λ vs. slice_get vs n) same) ∙ is));
+          held = held_more s c (with_cache k (cache_of c k ++ (a, next_object h) ∷ []) c) (let count = ap length same in omega (arith, count)) whole.held;
+        }
     by (Some o) agree = whole
 
 -- ---- values of the host
@@ -115,14 +119,16 @@ externs_stay_whole h s c v whole live = by (place_of v c.externs) (agree_extern 
     externs : (n : ℕ) (x : HostValue) → (slice_get c.externs n ≡ Some x) ⊎ ((n ≡ length c.externs) × (x ≡ v)) → IsLiveValue h x
     externs n x (inl is) = whole.externs n x is
     externs n x (inr is) = subst (IsLiveValue h) (sym is.1) live
+
     by : (r : Option ℕ) → Agree h (option_map_or (λ n. c) r (record c { externs = c.externs ++ v ∷ [] }))
         → ((k : ExternalKind) (a : ℕ) → cached (option_map_or (λ n. c) r (record c { externs = c.externs ++ v ∷ [] })) k a ≡ cached c k a)
         → IsWhole h s (option_map_or (λ n. c) r (record c { externs = c.externs ++ v ∷ [] }))
     by None agree same = record {
-        agree = agree;
-        addresses = λ k a o is. whole.addresses k a o (sym (same k a) ∙ is);
-        externs = λ n x is. externs n x (get_pushed c.externs v n x is);
-        held = held_more s c (record c { externs = c.externs ++ v ∷ [] }) (let count = length-append c.externs (v ∷ []) in omega (arith, count)) whole.held }
+      agree = agree;
+      addresses = λ k a o is. whole.addresses k a o (sym (same k a) ∙ is);
+      externs = λ n x is. externs n x (get_pushed c.externs v n x is);
+      held = held_more s c (record c { externs = c.externs ++ v ∷ [] }) (let count = length-append c.externs (v ∷ []) in omega (arith, count)) whole.held;
+    }
     by (Some n) agree same = whole
 
 -- ---- conversions
@@ -205,8 +211,9 @@ is_of external.Global a = refl
 
 pub other_objects_agree : OtherObjectsAgree
 other_objects_agree h c k properties other agree = record {
-    named = λ l b o is. kind_kept h k properties (kind_of l b) o (agree.named l b o is);
-    found = λ l b o is. found l b o (kind_before h k properties (kind_of l b) o is) }
+  named = λ l b o is. kind_kept h k properties (kind_of l b) o (agree.named l b o is);
+  found = λ l b o is. found l b o (kind_before h k properties (kind_of l b) o is);
+}
   where
     found : (l : ExternalKind) (b : ℕ) (o : ObjId) → (kind_at h o ≡ Some (kind_of l b)) ⊎ ((o ≡ next_object h) × (k ≡ kind_of l b)) → cached c l b ≡ Some o
     found l b o (inl is) = agree.found l b o is
@@ -214,10 +221,11 @@ other_objects_agree h c k properties other agree = record {
 
 pub other_objects_stay_whole : OtherObjectsStayWhole
 other_objects_stay_whole h s c k properties other whole = record {
-    agree = other_objects_agree h c k properties other whole.agree;
-    addresses = whole.addresses;
-    externs = λ n v is. live_more h (with_object h k properties) (one_more h k properties) v (whole.externs n v is);
-    held = whole.held }
+  agree = other_objects_agree h c k properties other whole.agree;
+  addresses = whole.addresses;
+  externs = λ n v is. live_more h (with_object h k properties) (one_more h k properties) v (whole.externs n v is);
+  held = whole.held;
+}
 
 pub writing_agrees : WritingAgrees
 writing_agrees h g c same agree = record { named = λ k a o is. same o ∙ agree.named k a o is; found = λ k a o is. agree.found k a o (sym (same o) ∙ is) }
@@ -233,10 +241,11 @@ written_live h g same (values.Text t) live = live
 
 pub writing_stays_whole : WritingStaysWhole
 writing_stays_whole h g s c same whole = record {
-    agree = writing_agrees h g c (λ o. (same o).1) whole.agree;
-    addresses = whole.addresses;
-    externs = λ n v is. written_live h g same v (whole.externs n v is);
-    held = whole.held }
+  agree = writing_agrees h g c (λ o. (same o).1) whole.agree;
+  addresses = whole.addresses;
+  externs = λ n v is. written_live h g same v (whole.externs n v is);
+  held = whole.held;
+}
 
 more_things : (s t : Store) → stores.IsLater s t → (k : ExternalKind) → count_of s k ≤ count_of t k
 more_things s t later external.Function = later.functions.count
@@ -246,7 +255,8 @@ more_things s t later external.Global = later.globals.count
 
 pub later_stores_stay_whole : LaterStoresStayWhole
 later_stores_stay_whole h s t c later held whole = record {
-    agree = whole.agree;
-    addresses = λ k a o is. let more = more_things s t later k in let live = whole.addresses k a o is in omega (arith, more, live);
-    externs = whole.externs;
-    held = held }
+  agree = whole.agree;
+  addresses = λ k a o is. let more = more_things s t later k in let live = whole.addresses k a o is in omega (arith, more, live);
+  externs = whole.externs;
+  held = held;
+}

@@ -1,9 +1,8 @@
 -- The object caches (WebAssembly JavaScript Interface, section 4.2): for each address one object, and for each value of the host
 -- that a module holds one address.
-use Rattle.std.specs.Prelude.{◌≡◌, ℕ, suc, Bool, true, nat_eq, List, [], ◌∷◌, ◌++◌, length, Option, Some, None, slice_get, if◌then◌else◌}
+use Rattle.std.specs.Prelude.{◌≡◌, ℕ, suc, true, nat_eq, List, [], ◌∷◌, ◌++◌, length, Option, Some, None, slice_get, if◌then◌else◌}
 use Rattle.std.specs.Option.{option_map, option_map_or}
 use Rattle.std.specs.Map.{lookup}
-use Rattle.wasm_syntax.specs.declared.addresses.FuncAddr.{FuncAddr}
 use Rattle.wasm_syntax.specs.declared.addresses.ExternAddr.{ExternAddr}
 use Rattle.host_values.specs.Objects.{HostHeap}
 use Rattle.host_values.specs.Heaps.{next_object, with_object}

@@ -1,5 +1,5 @@
 -- Conversions between values of scripts and of modules over the caches (WebAssembly JavaScript Interface, section 5.6).
-use Rattle.std.specs.Prelude.{◌≡◌, ℕ, ◌-◌, ◌^◌, ◌<◌, nat_lt, ℤ, pos, ◌-ℤ◌, length, slice_index_or, Option, Some, None, Result, Ok, Err, if◌then◌else◌}
+use Rattle.std.specs.Prelude.{◌≡◌, ℕ, ◌-◌, ◌^◌, ◌<◌, nat_lt, ℤ, pos, ◌-ℤ◌, length, slice_index_or, Option, Some, Result, Ok, Err, if◌then◌else◌}
 use Rattle.wasm_syntax.specs.declared.types.ValType.{ValType}
 use Rattle.wasm_syntax.specs.declared.types.ValType.TheVariants as types
 use Rattle.wasm_syntax.specs.declared.value.Value.{Value}

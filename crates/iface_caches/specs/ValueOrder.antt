@@ -1,6 +1,6 @@
 -- Private: an order of values of scripts, by their type and then by what they hold.
-use Rattle.std.specs.Prelude.{◌≡◌, ℕ, Bool, ℤ, pos, List, [], if◌then◌else◌}
-use Rattle.std.specs.Ordering.{nat_cmp, int_cmp, on, then_cmp, is_eq}
+use Rattle.std.specs.Prelude.{ℕ, ℤ, pos, List, [], if◌then◌else◌}
+use Rattle.std.specs.Ordering.{nat_cmp, int_cmp, on, then_cmp}
 use Rattle.std.specs.declared.cmp.Ordering.{Ordering}
 use Rattle.std.specs.Cmp.{IsTotalOrder}
 use Rattle.std.specs.Cmp.Lexicographic.{slice_cmp}

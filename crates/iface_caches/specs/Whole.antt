@@ -1,5 +1,5 @@
 -- What holds of a heap, a store and the caches together.
-use Rattle.std.specs.Prelude.{◌≡◌, ℕ, ◌<◌, Bool, true, false, List, length, Some, slice_get}
+use Rattle.std.specs.Prelude.{◌≡◌, ℕ, ◌<◌, Bool, true, false, length, Some, slice_get}
 use Rattle.std.specs.List.{All}
 use Rattle.wasm_store.specs.Store.{Store, TableInst}
 use Rattle.wasm_store.specs.declared.instances.GlobalInst.{GlobalInst}

@@ -238,7 +238,11 @@ impl Caches {
     }
 
     /// The address of a value of the host. Strictly equal values (ECMA-262, section 7.2.14) have one address.
-    pub fn extern_addr(&mut self, _alloc: Global, value: HostValue) -> Result<ExternAddr, AllocError>
+    pub fn extern_addr(
+        &mut self,
+        _alloc: Global,
+        value: HostValue,
+    ) -> Result<ExternAddr, AllocError>
         ensures address { IfOk result (λ a. a ≡ extern_of self.old value) }
         ensures ok { OnOk result (self.new ≡ with_extern value self.old) }
         ensures err { OnErr result (self.new ≡ self.old) }
