@@ -33,8 +33,11 @@ fn is_wanted(answer: &Option<Result<Value, Conversion>>, wanted: Wanted) -> bool
 type Case = (Sample, ValType, Wanted);
 
 const I32: ValType = ValType::I32;
+
 const I64: ValType = ValType::I64;
+
 const FUNC: ValType = ValType::FuncRef;
+
 const EXTERN: ValType = ValType::ExternRef;
 
 /// Conversions to integers.
@@ -44,13 +47,37 @@ static INTEGERS: [Case; 26] = [
     (Sample::Bool(false), I32, Wanted::Value(Value::I32(0))),
     (Sample::Bool(true), I32, Wanted::Value(Value::I32(1))),
     (Sample::Number(5), I32, Wanted::Value(Value::I32(5))),
-    (Sample::Number(-1), I32, Wanted::Value(Value::I32(4_294_967_295))),
-    (Sample::Number(2_147_483_648), I32, Wanted::Value(Value::I32(2_147_483_648))),
-    (Sample::Number(4_294_967_301), I32, Wanted::Value(Value::I32(5))),
+    (
+        Sample::Number(-1),
+        I32,
+        Wanted::Value(Value::I32(4_294_967_295)),
+    ),
+    (
+        Sample::Number(2_147_483_648),
+        I32,
+        Wanted::Value(Value::I32(2_147_483_648)),
+    ),
+    (
+        Sample::Number(4_294_967_301),
+        I32,
+        Wanted::Value(Value::I32(5)),
+    ),
     (Sample::BigInt(5), I32, Wanted::TypeError),
-    (Sample::Text("5"), I32, Wanted::Outside(OutsideKind::TextNumber)),
-    (Sample::Object(0), I32, Wanted::Outside(OutsideKind::ToPrimitive)),
-    (Sample::Object(2), I32, Wanted::Outside(OutsideKind::ToPrimitive)),
+    (
+        Sample::Text("5"),
+        I32,
+        Wanted::Outside(OutsideKind::TextNumber),
+    ),
+    (
+        Sample::Object(0),
+        I32,
+        Wanted::Outside(OutsideKind::ToPrimitive),
+    ),
+    (
+        Sample::Object(2),
+        I32,
+        Wanted::Outside(OutsideKind::ToPrimitive),
+    ),
     (Sample::Undefined, I64, Wanted::TypeError),
     (Sample::Null, I64, Wanted::TypeError),
     (Sample::Bool(false), I64, Wanted::Value(Value::I64(0))),
@@ -58,17 +85,41 @@ static INTEGERS: [Case; 26] = [
     (Sample::Number(5), I64, Wanted::TypeError),
     (Sample::Number(0), I64, Wanted::TypeError),
     (Sample::BigInt(5), I64, Wanted::Value(Value::I64(5))),
-    (Sample::BigInt(-1), I64, Wanted::Value(Value::I64(18_446_744_073_709_551_615))),
+    (
+        Sample::BigInt(-1),
+        I64,
+        Wanted::Value(Value::I64(18_446_744_073_709_551_615)),
+    ),
     (
         Sample::BigInt(9_223_372_036_854_775_808),
         I64,
         Wanted::Value(Value::I64(9_223_372_036_854_775_808)),
     ),
-    (Sample::BigInt(18_446_744_073_709_551_621), I64, Wanted::Value(Value::I64(5))),
-    (Sample::Text("5"), I64, Wanted::Outside(OutsideKind::TextNumber)),
-    (Sample::Object(0), I64, Wanted::Outside(OutsideKind::ToPrimitive)),
-    (Sample::Object(1), I64, Wanted::Outside(OutsideKind::ToPrimitive)),
-    (Sample::Object(2), I64, Wanted::Outside(OutsideKind::ToPrimitive)),
+    (
+        Sample::BigInt(18_446_744_073_709_551_621),
+        I64,
+        Wanted::Value(Value::I64(5)),
+    ),
+    (
+        Sample::Text("5"),
+        I64,
+        Wanted::Outside(OutsideKind::TextNumber),
+    ),
+    (
+        Sample::Object(0),
+        I64,
+        Wanted::Outside(OutsideKind::ToPrimitive),
+    ),
+    (
+        Sample::Object(1),
+        I64,
+        Wanted::Outside(OutsideKind::ToPrimitive),
+    ),
+    (
+        Sample::Object(2),
+        I64,
+        Wanted::Outside(OutsideKind::ToPrimitive),
+    ),
 ];
 
 /// Conversions to references. A value of the host has the next address where it has none.
@@ -81,24 +132,72 @@ static REFERENCES: [Case; 27] = [
     (Sample::Text("f"), FUNC, Wanted::TypeError),
     (Sample::Object(0), FUNC, Wanted::TypeError),
     (Sample::Object(1), FUNC, Wanted::TypeError),
-    (Sample::Object(2), FUNC, Wanted::Value(Value::Func(FuncAddr(9)))),
+    (
+        Sample::Object(2),
+        FUNC,
+        Wanted::Value(Value::Func(FuncAddr(9))),
+    ),
     (Sample::Object(3), FUNC, Wanted::TypeError),
     (Sample::Object(4), FUNC, Wanted::TypeError),
     (Sample::Object(5), FUNC, Wanted::TypeError),
     (Sample::Object(6), FUNC, Wanted::TypeError),
     (Sample::Object(7), FUNC, Wanted::TypeError),
-    (Sample::Undefined, EXTERN, Wanted::Value(Value::Extern(ExternAddr(0)))),
+    (
+        Sample::Undefined,
+        EXTERN,
+        Wanted::Value(Value::Extern(ExternAddr(0))),
+    ),
     (Sample::Null, EXTERN, Wanted::Value(Value::ExternNull)),
-    (Sample::Bool(true), EXTERN, Wanted::Value(Value::Extern(ExternAddr(1)))),
-    (Sample::Number(0), EXTERN, Wanted::Value(Value::Extern(ExternAddr(2)))),
-    (Sample::BigInt(0), EXTERN, Wanted::Value(Value::Extern(ExternAddr(3)))),
-    (Sample::Text("f"), EXTERN, Wanted::Value(Value::Extern(ExternAddr(4)))),
-    (Sample::Object(0), EXTERN, Wanted::Value(Value::Extern(ExternAddr(5)))),
-    (Sample::Object(2), EXTERN, Wanted::Value(Value::Extern(ExternAddr(6)))),
-    (Sample::Number(0), EXTERN, Wanted::Value(Value::Extern(ExternAddr(2)))),
-    (Sample::Text("f"), EXTERN, Wanted::Value(Value::Extern(ExternAddr(4)))),
-    (Sample::Object(0), EXTERN, Wanted::Value(Value::Extern(ExternAddr(5)))),
-    (Sample::Undefined, EXTERN, Wanted::Value(Value::Extern(ExternAddr(0)))),
+    (
+        Sample::Bool(true),
+        EXTERN,
+        Wanted::Value(Value::Extern(ExternAddr(1))),
+    ),
+    (
+        Sample::Number(0),
+        EXTERN,
+        Wanted::Value(Value::Extern(ExternAddr(2))),
+    ),
+    (
+        Sample::BigInt(0),
+        EXTERN,
+        Wanted::Value(Value::Extern(ExternAddr(3))),
+    ),
+    (
+        Sample::Text("f"),
+        EXTERN,
+        Wanted::Value(Value::Extern(ExternAddr(4))),
+    ),
+    (
+        Sample::Object(0),
+        EXTERN,
+        Wanted::Value(Value::Extern(ExternAddr(5))),
+    ),
+    (
+        Sample::Object(2),
+        EXTERN,
+        Wanted::Value(Value::Extern(ExternAddr(6))),
+    ),
+    (
+        Sample::Number(0),
+        EXTERN,
+        Wanted::Value(Value::Extern(ExternAddr(2))),
+    ),
+    (
+        Sample::Text("f"),
+        EXTERN,
+        Wanted::Value(Value::Extern(ExternAddr(4))),
+    ),
+    (
+        Sample::Object(0),
+        EXTERN,
+        Wanted::Value(Value::Extern(ExternAddr(5))),
+    ),
+    (
+        Sample::Undefined,
+        EXTERN,
+        Wanted::Value(Value::Extern(ExternAddr(0))),
+    ),
     (Sample::Null, EXTERN, Wanted::Value(Value::ExternNull)),
 ];
 
@@ -188,9 +287,22 @@ fn values_of_modules_as_values_of_scripts(rt: HostRuntime) -> Result<(), Fail> {
     for case in SHOWN.iter() {
         assert!(rt; shows(&mut realm, alloc, case.0, case.1)?, "a value");
     }
-    assert!(rt; realm.to_host(alloc, Value::Extern(ExternAddr(0)))?.is_none(), "no value yet");
+    assert!(rt;
+        realm
+            .to_host(alloc, Value::Extern(ExternAddr(0)))?
+            .is_none(),
+        "no value yet"
+    );
     let first = realm.extern_addr(alloc, HostValue::Bool(true))?;
     assert_eq!(rt; first, 0);
-    assert!(rt; shows(&mut realm, alloc, Value::Extern(ExternAddr(0)), Sample::Bool(true))?, "it");
+    assert!(rt;
+        shows(
+            &mut realm,
+            alloc,
+            Value::Extern(ExternAddr(0)),
+            Sample::Bool(true)
+        )?,
+        "it"
+    );
     Ok(())
 }

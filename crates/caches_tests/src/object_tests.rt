@@ -31,8 +31,14 @@ fn an_exported_function_is_the_entry_of_a_table(rt: HostRuntime) -> Result<(), F
     let mut realm = Realm::new(alloc)?;
     let exported = realm.object(alloc, ExternalKind::Function, 3)?;
     assert_eq!(rt; exported, ObjId(1));
-    assert!(rt; is_shown(&mut realm, alloc, 3, 1)?, "the entry is the export");
-    assert!(rt; is_shown(&mut realm, alloc, 4, 2)?, "another function is another object");
+    assert!(rt;
+        is_shown(&mut realm, alloc, 3, 1)?,
+        "the entry is the export"
+    );
+    assert!(rt;
+        is_shown(&mut realm, alloc, 4, 2)?,
+        "another function is another object"
+    );
     let again = realm.object(alloc, ExternalKind::Function, 4)?;
     assert_eq!(rt; again, ObjId(2));
     Ok(())
@@ -47,7 +53,10 @@ fn an_entry_of_a_table_is_the_exported_function(rt: HostRuntime) -> Result<(), F
     let exported = realm.object(alloc, ExternalKind::Function, 0)?;
     assert_eq!(rt; exported, ObjId(1));
     let answer = realm.to_wasm(alloc, &HostValue::Object(exported), ValType::FuncRef);
-    assert!(rt; matches!(answer, Some(Ok(Value::Func(FuncAddr(0))))), "the function");
+    assert!(rt;
+        matches!(answer, Some(Ok(Value::Func(FuncAddr(0))))),
+        "the function"
+    );
     Ok(())
 }
 
@@ -69,7 +78,10 @@ fn each_kind_has_its_own_objects(rt: HostRuntime) -> Result<(), Fail> {
     let mut realm = Realm::new(alloc)?;
     assert!(rt; are_objects(&mut realm, alloc, 1)?, "new objects");
     assert!(rt; are_objects(&mut realm, alloc, 1)?, "the same ones");
-    assert!(rt; realm.is(ObjId(1), Kind::Function(Callee::Exported(FuncAddr(7)))), "a function");
+    assert!(rt;
+        realm.is(ObjId(1), Kind::Function(Callee::Exported(FuncAddr(7)))),
+        "a function"
+    );
     assert!(rt; realm.is(ObjId(2), Kind::Memory(MemAddr(7))), "a memory");
     assert!(rt; realm.is(ObjId(3), Kind::Table(TableAddr(7))), "a table");
     assert!(rt; realm.is(ObjId(4), Kind::Global(GlobalAddr(7))), "a global");

@@ -65,13 +65,21 @@ impl Realm {
     }
 
     /// The address of a value of the host.
-    pub(crate) fn extern_addr(&mut self, alloc: Global, value: HostValue) -> Result<u64, AllocError> {
+    pub(crate) fn extern_addr(
+        &mut self,
+        alloc: Global,
+        value: HostValue,
+    ) -> Result<u64, AllocError> {
         let a = self.caches.extern_addr(alloc, value)?;
         Ok(a.0)
     }
 
     /// The value of a script; none where a reference has no value here.
-    pub(crate) fn to_host(&mut self, alloc: Global, v: Value) -> Result<Option<HostValue>, AllocError> {
+    pub(crate) fn to_host(
+        &mut self,
+        alloc: Global,
+        v: Value,
+    ) -> Result<Option<HostValue>, AllocError> {
         if !self.caches.has_value(v) {
             return Ok(None);
         }
