@@ -1,0 +1,6 @@
+pub mod Characters
+pub mod Numerals
+pub mod Spellings
+pub mod Steps
+pub mod Texts
+pub mod Tokens
