@@ -1,5 +1,8 @@
 pub mod Classes
+pub mod Commented
 pub mod Marked
+pub mod Named
+pub mod Numbered
 pub mod Pieces
 pub mod Quoted
 pub mod Reached

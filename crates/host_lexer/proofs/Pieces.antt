@@ -27,7 +27,7 @@ abbrev pub piece_front : List ℕ → Option Piece
 piece_front [] = None
 piece_front (c ∷ cs) = cond (c == 92) (escape_front cs) (Some (plain c))
 
-differs : (c k : ℕ) → ¬ (c ≡ k) → (c == k) ≡ false
+pub differs : (c k : ℕ) → ¬ (c ≡ k) → (c == k) ≡ false
 differs c k h = grind (arith, nat_tests)
 
 letter_front : (c : ℕ) (rest : List ℕ) → is_letter c ≡ true → escape_front (c ∷ rest) ≡ Some (letter c)

@@ -56,7 +56,7 @@ hex_part c h = let lt : c < 128 = grind (arith, nat_tests) in let a : is_ascii_a
 letter_part : (c : ℕ) → c < 128 → is_ascii_alphanumeric c ≡ true → is_number_part c ≡ true
 letter_part c lt h = alnum c lt h
 
-decimal_digits : (ds : List ℕ) → IsDecimal ds → AreDigits 10 ds
+pub decimal_digits : (ds : List ℕ) → IsDecimal ds → AreDigits 10 ds
 decimal_digits [] h = absurd h
 decimal_digits (d ∷ []) h = h
 decimal_digits (d ∷ e ∷ ds) h = h.1
@@ -86,7 +86,7 @@ numeral_no_n (hexadecimal ds) h =
     (All-cons (λ c. (c == 110) ≡ false) 120 ds refl
     (All-weaker (λ c. is_digit c 16 ≡ true) (λ c. (c == 110) ≡ false) no_n ds h.1))
 
-has_n : (xs : List ℕ) → All (λ c. (c == 110) ≡ false) (xs ++ 110 ∷ []) → ⊥
+pub has_n : (xs : List ℕ) → All (λ c. (c == 110) ≡ false) (xs ++ 110 ∷ []) → ⊥
 has_n [] h = let q : (110 == 110) ≡ false = All-head (λ c. (c == 110) ≡ false) 110 [] h in cc
 has_n (x ∷ xs) h = has_n xs (All-tail (λ c. (c == 110) ≡ false) x (xs ++ 110 ∷ []) h)
 

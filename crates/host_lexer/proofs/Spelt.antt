@@ -1,10 +1,11 @@
 -- Words and marks by their spellings.
-use Rattle.std.specs.Prelude.{◌≡◌, ℕ, ◌+◌, ◌<◌, ◌≤◌, Bool, true, false, cond, ◌&&◌, ◌||◌, ◌==◌, List, [], ◌∷◌, ◌++◌, length, codes, All, Option, Some, None, refl}
+use Rattle.std.specs.Prelude.{◌≡◌, ℕ, ◌+◌, ◌<◌, ◌≤◌, Bool, true, false, cond, ◌&&◌, ◌||◌, ◌==◌, List, [], ◌∷◌, ◌++◌, length, codes, All, Option, Some, None, nat_lt, encode_utf8_all, refl}
 use Rattle.std.specs.List.{list_all}
 use Rattle.std.specs.Str.{bytes_eq}
 use Rattle.std.proofs.Common.{sym, ◌∙◌, ap, subst, arith, get_or, lit≤}
 use Rattle.std.proofs.lemmas.Bool.Decides.{nat_tests}
-use Rattle.std.proofs.lemmas.List.Elements.{All-nil, All-cons}
+use Rattle.std.proofs.lemmas.List.Elements.{All-nil, All-cons, All-weaker}
+use Rattle.std.proofs.lemmas.Str.Ascii.{encodes-IsAscii, IsAscii-from_all}
 use Rattle.unicode_ident.proofs.Computing.{unicode_ident}
 use Rattle.host_lexer.specs.declared.token.Word.{Word}
 use Rattle.host_lexer.specs.declared.token.Word.TheVariants as words
@@ -198,6 +199,64 @@ are_identifiers words.Yield = refl
 
 pub word_identifier : (w : Word) → IsIdentifier (word_chars w)
 word_identifier w = identifier_passes (word_chars w) (are_identifiers w)
+
+are_ascii : (w : Word) → list_all (λ c. nat_lt c 128) (word_chars w) ≡ true
+are_ascii words.Arguments = refl
+are_ascii words.Await = refl
+are_ascii words.Break = refl
+are_ascii words.Case = refl
+are_ascii words.Catch = refl
+are_ascii words.Class = refl
+are_ascii words.Const = refl
+are_ascii words.Continue = refl
+are_ascii words.Debugger = refl
+are_ascii words.Default = refl
+are_ascii words.Delete = refl
+are_ascii words.Do = refl
+are_ascii words.Else = refl
+are_ascii words.Enum = refl
+are_ascii words.Eval = refl
+are_ascii words.Export = refl
+are_ascii words.Extends = refl
+are_ascii words.False = refl
+are_ascii words.Finally = refl
+are_ascii words.For = refl
+are_ascii words.Function = refl
+are_ascii words.If = refl
+are_ascii words.Implements = refl
+are_ascii words.Import = refl
+are_ascii words.In = refl
+are_ascii words.InstanceOf = refl
+are_ascii words.Interface = refl
+are_ascii words.Let = refl
+are_ascii words.New = refl
+are_ascii words.Null = refl
+are_ascii words.Package = refl
+are_ascii words.Private = refl
+are_ascii words.Protected = refl
+are_ascii words.Public = refl
+are_ascii words.Return = refl
+are_ascii words.Static = refl
+are_ascii words.Super = refl
+are_ascii words.Switch = refl
+are_ascii words.This = refl
+are_ascii words.Throw = refl
+are_ascii words.True = refl
+are_ascii words.Try = refl
+are_ascii words.TypeOf = refl
+are_ascii words.Undefined = refl
+are_ascii words.Var = refl
+are_ascii words.Void = refl
+are_ascii words.While = refl
+are_ascii words.With = refl
+are_ascii words.Yield = refl
+
+ascii_all : (xs : List ℕ) → All (λ c. nat_lt c 128 ≡ true) xs → All (λ c. c < 128) xs
+ascii_all xs h = All-weaker (λ c. nat_lt c 128 ≡ true) (λ c. c < 128) (λ c e. grind (arith, nat_tests)) xs h
+
+-- a word's characters are its bytes
+pub word_bytes : (w : Word) → encode_utf8_all (word_chars w) ≡ word_chars w
+word_bytes w = encodes-IsAscii (word_chars w) (IsAscii-from_all (word_chars w) (ascii_all (word_chars w) (all_pass (λ c. nat_lt c 128) (word_chars w) (are_ascii w))))
 
 -- the mark that begins some characters
 abbrev pub mark_at : List ℕ → Option Mark

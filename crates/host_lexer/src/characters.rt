@@ -1,4 +1,4 @@
-ghost use Rattle.std.specs.Prelude.{◌≡◌, ◌≤◌, length};
+ghost use Rattle.std.specs.Prelude.{◌≡◌, ◌≤◌, length, slice_index};
 ghost use Rattle.std.specs.List.{prefix_len};
 ghost use Rattle.host_lexer.specs.Characters as spec;
 
@@ -82,4 +82,11 @@ pub fn comment_len(chars: &[char]) -> usize
     ensures bound { result ≤ length chars.now }
 {
     chars.iter().take_while(|c| is_comment_part(**c)).count()
+}
+
+/// A character of some, or `\0` behind their end.
+pub fn char_or_null(chars: &[char], at: usize) -> char
+    ensures { result ≡ slice_index chars.now at }
+{
+    if at < chars.len() { chars[at] } else { '\0' }
 }

@@ -6,7 +6,7 @@ ghost use Rattle.host_lexer.specs.Tokens.{size_of, token_at, after_next, IsRead,
 ghost use Rattle.host_lexer.specs.Steps.{Begins, Refuses, IsRefusal, class_of, marked};
 ghost use Rattle.host_lexer.specs.declared.token.LexError.TheVariants as errors;
 
-use crate::characters;
+use crate::characters::{self, char_or_null};
 use crate::comments::{read_block_comment, read_line_comment};
 use crate::lexeme::{Failure, Lexeme};
 use crate::marks::{mark_len, mark_of};
@@ -65,13 +65,6 @@ fn read_number(chars: &[char]) -> Result<Lexeme, Failure>
         return Err(Failure::NoNumber);
     };
     Ok(Lexeme::token(len, kind))
-}
-
-// A character of some, or `\0` behind their end.
-fn char_or_null(chars: &[char], at: usize) -> char
-    ensures { result ≡ slice_index chars.now at }
-{
-    if at < chars.len() { chars[at] } else { '\0' }
 }
 
 // The mark that begins some characters which begin with nothing else.

@@ -1,4 +1,4 @@
-ghost use Rattle.std.specs.Prelude.{◌≡◌, ◌+◌, ◌*◌, ◌≤◌, ◌<◌, ◌^◌, MatchOption};
+ghost use Rattle.std.specs.Prelude.{◌≡◌, ℕ, List, [], ◌∷◌, ◌++◌, length, ◌+◌, ◌*◌, ◌≤◌, ◌<◌, ◌^◌, MatchOption};
 ghost use Rattle.host_lexer.specs.Numerals as spec;
 ghost use Rattle.host_lexer.specs.Steps.{AreDigitsUpTo, HasNumeral, NoNumeral, HasNumber, NoNumber};
 
@@ -35,28 +35,60 @@ pub fn digits_value(digits: &[char], radix: u32, greatest: u128) -> Option<u128>
     Some(value)
 }
 
+// The value of `0x` and hexadecimal digits, among the characters that begin with `0` and go on.
+fn after_zero(chars: &[char], greatest: u128) -> Option<u128>
+    requires { (d : ℕ) × (rest : List ℕ) × (chars.now ≡ 48 ∷ d ∷ rest) }
+    ensures { MatchOption result (NoNumeral chars.now greatest) (λ v. HasNumeral chars.now greatest v) }
+{
+    if chars[1] != 'x' {
+        return None;
+    }
+    if chars.len() == 2 {
+        return None;
+    }
+    digits_value(&chars[2..], 16, greatest)
+}
+
 // The value of `0`, of decimal digits that don't begin with `0`, or of `0x` and hexadecimal digits, where it is at most
 // `greatest`.
 fn numeral_value(chars: &[char], greatest: u128) -> Option<u128>
-    ensures none { MatchOption result (NoNumeral chars.now greatest) (λ v. HasNumeral chars.now greatest v) }
+    requires { 0 < length chars.now }
+    ensures { MatchOption result (NoNumeral chars.now greatest) (λ v. HasNumeral chars.now greatest v) }
 {
-    match chars {
-        [] => None,
-        ['0', 'x'] => None,
-        ['0', 'x', digits @ ..] => digits_value(digits, 16, greatest),
-        ['0', _, ..] => None,
-        _ => digits_value(chars, 10, greatest),
+    if chars[0] != '0' {
+        return digits_value(chars, 10, greatest);
     }
+    if chars.len() == 1 {
+        return Some(0);
+    }
+    after_zero(chars, greatest)
+}
+
+// The BigInt whose digits stand before an `n`.
+fn big_int(chars: &[char]) -> Option<TokenKind>
+    requires { (ds : List ℕ) × (chars.now ≡ ds ++ 110 ∷ []) }
+    ensures { MatchOption result (NoNumber chars.now) (λ kind. HasNumber chars.now kind) }
+{
+    let last = chars.len() - 1;
+    if last == 0 {
+        return None;
+    }
+    let Some(value) = numeral_value(&chars[..last], GREATEST_BIG_INT) else {
+        return None;
+    };
+    Some(TokenKind::BigInt(value))
 }
 
 /// The kind of the token that is spelt so, if it is a Number or a BigInt of the profile.
 pub fn number_kind(chars: &[char]) -> Option<TokenKind>
+    requires { 0 < length chars.now }
     ensures { MatchOption result (NoNumber chars.now) (λ kind. HasNumber chars.now kind) }
 {
-    if let [digits @ .., 'n'] = chars {
-        let value = numeral_value(digits, GREATEST_BIG_INT)?;
-        return Some(TokenKind::BigInt(value));
+    if chars[chars.len() - 1] == 'n' {
+        return big_int(chars);
     }
-    let value = numeral_value(chars, u128::from(GREATEST_NUMBER))?;
+    let Some(value) = numeral_value(chars, u128::from(GREATEST_NUMBER)) else {
+        return None;
+    };
     Some(TokenKind::Number(value as u64))
 }

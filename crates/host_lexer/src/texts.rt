@@ -6,7 +6,7 @@ ghost use Rattle.host_lexer.specs.Numerals.{value_in, AreDigits};
 ghost use Rattle.host_lexer.specs.Steps.{HasPiece, NoPiece, HasDigits, NoDigits, Begins, Refuses};
 ghost use Rattle.host_lexer.specs.Texts.{is_letter, code_of_letter};
 
-use crate::characters::is_line_end;
+use crate::characters::{char_or_null, is_line_end};
 use crate::lexeme::{Failure, Lexeme};
 use crate::numbers::digits_value;
 use crate::token::TokenKind;
@@ -68,7 +68,9 @@ fn braced(chars: &[char]) -> Option<Piece>
     if chars[end] != '}' {
         return None;
     }
-    let code = char_at(chars, 3, len)?;
+    let Some(code) = char_at(chars, 3, len) else {
+        return None;
+    };
     Some(Piece { len: end + 1, code })
 }
 
@@ -102,7 +104,9 @@ fn short(chars: &[char]) -> Option<Piece>
     requires begins { (c : ℕ) × (rest : List ℕ) × (chars.now ≡ 92 ∷ c ∷ rest) × (¬ (c ≡ 120)) × (¬ (c ≡ 117)) × (¬ (c ≡ 48)) }
     ensures { (q : ℕ) → MatchOption result (NoPiece q chars.now) (λ p. HasPiece q chars.now p.len p.code) }
 {
-    let code = letter(chars[1])?;
+    let Some(code) = letter(chars[1]) else {
+        return None;
+    };
     Some(Piece { len: 2, code })
 }
 
@@ -114,7 +118,7 @@ fn escape(chars: &[char]) -> Option<Piece>
     if chars.len() < 2 {
         return None;
     }
-    let next = if chars.len() > 2 { chars[2] } else { '\0' };
+    let next = char_or_null(chars, 2);
     match chars[1] {
         'x' => fixed(chars, 2),
         'u' if next == '{' => braced(chars),
