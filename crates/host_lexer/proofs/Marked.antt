@@ -9,9 +9,10 @@ use Rattle.host_lexer.specs.declared.token.Mark.TheVariants as marks
 use Rattle.host_lexer.specs.declared.token.TokenKind.TheVariants as kinds
 use Rattle.host_lexer.specs.Characters.{is_name_start, is_space, is_line_end, is_quote, HasFirst, StopsAt}
 use Rattle.host_lexer.specs.Spellings.{mark_chars}
-use Rattle.host_lexer.specs.Steps.{Begins, IsSpelt, Class, named, numbered, blank, line, quoted, line_commented, block_commented, marked, class_of}
+use Rattle.host_lexer.specs.Steps.{Begins, IsSpelt, mark_front, Class, named, numbered, blank, line, quoted, line_commented, block_commented, marked, class_of}
 use Rattle.host_lexer.specs.Tokens.{Element, mark, Heads, NoElement, EndsAt, no_token, BeginsNoComment}
 use Rattle.host_lexer.proofs.Classes.{class_at, class_is, digit_class}
+use Rattle.host_lexer.proofs.Numbered.{at_default}
 use Rattle.host_lexer.proofs.Same.{class_heads, as_mark}
 use Rattle.host_lexer.proofs.Spelt.{mark_at, goes_on, mark_at_is, longest_stops, is_longest, found_mark}
 
@@ -64,3 +65,15 @@ no_mark (c ∷ cs) lt k h = (marked_no_digit c (get_or cs 0 0) k, λ e rest g. n
     never e rest g (m, q) =
         let f : Heads (c ∷ cs) (mark m) rest = subst (λ x. Heads (c ∷ cs) x rest) q g in
         let a : mark_at (c ∷ cs) ≡ Some m = subst (λ x. mark_at x ≡ Some m) f.spell (mark_at_is m rest (longest_stops m rest f.ends.0)) in cc
+
+-- the same over the characters that the code has read
+pub mark_reads_at : (xs : List ℕ) (m : Mark) (n a b c : ℕ) → 0 < length xs → class_at xs ≡ marked → a ≡ get_or xs 0 a → b ≡ get_or xs 1 0 → c ≡ get_or xs 2 0 → IsSpelt m a b c
+    → n ≡ length (mark_chars m) → Begins xs n (Some (kinds.Mark m)) false
+mark_reads_at xs m n a b c lt k p q r h s =
+    let p' : a ≡ get_or xs 0 0 = p ∙ at_default xs 0 a 0 lt in
+    mark_reads xs m n lt k (subst (λ y. IsSpelt m y (get_or xs 1 0) (get_or xs 2 0)) p' (subst (λ y. IsSpelt m a y (get_or xs 2 0)) q (subst (λ y. IsSpelt m a b y) r h))) s
+
+pub no_mark_at : (xs : List ℕ) (a b c : ℕ) → 0 < length xs → class_at xs ≡ marked → a ≡ get_or xs 0 a → b ≡ get_or xs 1 0 → c ≡ get_or xs 2 0 → None ≡ mark_front a b c → EndsAt xs no_token
+no_mark_at xs a b c lt k p q r h =
+    let p' : a ≡ get_or xs 0 0 = p ∙ at_default xs 0 a 0 lt in
+    no_mark xs lt k (h ∙ ap (λ y. mark_front y b c) p' ∙ ap (λ y. mark_front (get_or xs 0 0) y c) q ∙ ap (λ y. mark_front (get_or xs 0 0) (get_or xs 1 0) y) r)

@@ -181,3 +181,8 @@ is_whole xs v h = record {
   is_element = (h.is_numeral, rw h.value_is h.small);
   makes = ap (λ n. Some (kinds.Number n)) h.value_is;
 }
+
+pub zero_goes_on : (xs : List ℕ) (k : ℕ) → 0 < length xs → k ≡ get_or xs 0 k → k ≡ 48 → ¬ (length xs ≡ 1) → (d : ℕ) × (rest : List ℕ) × (xs ≡ 48 ∷ d ∷ rest)
+zero_goes_on [] k lt g e l = absurd (omega arith)
+zero_goes_on (x ∷ []) k lt g e l = absurd (l refl)
+zero_goes_on (x ∷ y ∷ ys) k lt g e l = (y, ys, ap (λ c. c ∷ y ∷ ys) (sym g ∙ e))

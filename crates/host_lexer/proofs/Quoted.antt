@@ -15,6 +15,7 @@ use Rattle.host_lexer.specs.Texts.{Piece, plain, letter, null, byte, unit, brace
 use Rattle.host_lexer.specs.Steps.{HasPiece, NoPiece, HasDigits, NoDigits, Begins, quoted}
 use Rattle.host_lexer.specs.Tokens.{Element, text, Heads, NoElement, EndsAt, no_token}
 use Rattle.host_lexer.proofs.Classes.{class_at, class_is, quote_class, quote_is}
+use Rattle.host_lexer.proofs.Numbered.{at_default}
 use Rattle.host_lexer.proofs.Pieces.{is_hex, piece_front, fronted_piece, same_piece, no_quote, pieces_go, piece_goes, differs}
 use Rattle.host_lexer.proofs.Runs.{run_of, run_is, run_passes, run_stops}
 use Rattle.host_lexer.proofs.Same.{class_heads, as_text}
@@ -97,8 +98,8 @@ taken : (n : ℕ) (ys : List ℕ) → n ≤ length ys → length (take n ys) ≡
 taken n ys l = let a = length-append (take n ys) (drop n ys) in let b = ap length (take-append-drop n ys) in let c = length-drop n ys in omega (arith, a, b, c)
 
 -- `\xHH`
-pub byte_piece : (q : ℕ) (xs : List ℕ) (r : Option ℕ) (len code : ℕ) → xs ≡ 92 ∷ 120 ∷ drop 2 xs → HasDigits xs 2 2 code → len ≡ 4 → HasPiece q xs len code
-byte_piece q xs r len code e h l =
+pub byte_piece : (q : ℕ) (xs : List ℕ) (len code : ℕ) → xs ≡ 92 ∷ 120 ∷ drop 2 xs → HasDigits xs 2 2 code → len ≡ 4 → HasPiece q xs len code
+byte_piece q xs len code e h l =
     let m : length (take 2 (drop 2 xs)) ≡ 2 = taken 2 (drop 2 xs) (let v = length-drop 2 xs in let w = h.within in omega (arith, v, w)) in
     rw l (record {
       piece = byte (take 2 (drop 2 xs));
@@ -263,3 +264,49 @@ never_closes q xs at bytes t lt past f g = no_text q xs at bytes t lt f g on
   where
     on : (more : List Piece) (rest : List ℕ) → pieces_chars more ++ q ∷ rest ≡ drop at xs → ArePieces q more (q ∷ rest) → ⊥
     on more rest e a = let n = ap length (e ∙ drop_all at xs past) in let m = length-append (pieces_chars more) (q ∷ rest) in omega (arith, n, m)
+
+-- an answer's cases may be weaker
+pub matched : {A : Type 0} (r : Option A) (P Q : Type 0) (F G : A → Type 0) → (P → Q) → ((a : A) → F a → G a) → MatchOption r P F → MatchOption r Q G
+matched None P Q F G f g h = f h
+matched (Some a) P Q F G f g h = g a h
+
+-- the quote that the code has read
+pub first_there : (xs : List ℕ) (k : ℕ) → HasFirst is_quote xs → k ≡ get_or xs 0 k → is_quote k ≡ true
+first_there [] k h g = absurd h
+first_there (x ∷ xs) k h g = subst (λ y. is_quote y ≡ true) (sym g) h
+
+-- the same over what the code has read
+pub not_there : (q : ℕ) (xs : List ℕ) (at k : ℕ) → at < length xs → k ≡ get_or xs at k → ¬ (k ≡ q) → ¬ (get_or xs at 0 ≡ q)
+not_there q xs at k lt g n e = n (g ∙ at_default xs at k 0 lt ∙ e)
+
+first_left : (xs : List ℕ) (at : ℕ) → at < length xs → get_or (take (length xs - at) (drop at xs)) 0 0 ≡ get_or xs at 0
+first_left xs at lt = ap (λ y. get_or y 0 0) (take_rest xs at ∙ drop_more xs at 0 lt)
+
+piece_there : (p : Piece) (q : ℕ) (rest : List ℕ) → IsPiece q p rest → 0 < length (piece_chars p)
+piece_there (plain c) q rest h = omega arith
+piece_there (letter c) q rest h = omega arith
+piece_there null q rest h = omega arith
+piece_there (byte ds) q rest h = omega arith
+piece_there (unit ds) q rest h = omega arith
+piece_there (braced ds) q rest h = omega arith
+
+pub has_piece_at : (q : ℕ) (xs : List ℕ) (at k len code : ℕ) → at < length xs → k ≡ get_or xs at k → ¬ (k ≡ q)
+    → ((r : ℕ) → ¬ (get_or (take (length xs - at) (drop at xs)) 0 0 ≡ r) → HasPiece r (take (length xs - at) (drop at xs)) len code) → HasPiece q (drop at xs) len code
+has_piece_at q xs at k len code lt g n h =
+    subst (λ y. HasPiece q y len code) (take_rest xs at) (h q (λ e. not_there q xs at k lt g n (sym (first_left xs at lt) ∙ e)))
+
+pub piece_fits : (q : ℕ) (xs : List ℕ) (at len code : ℕ) → at < length xs → HasPiece q (drop at xs) len code → (0 < len) × (at + len ≤ length xs)
+piece_fits q xs at len code lt h =
+    let t : 0 < length (piece_chars h.piece) = piece_there h.piece q (drop len (drop at xs)) h.is_piece in
+    let n = ap length h.spell in let m = length-append (piece_chars h.piece) (drop len (drop at xs)) in let d = length-drop at xs in
+    let s = h.size in (omega (arith, t, s), omega (arith, n, m, d, s, lt))
+
+pub bad_piece_at : (q : ℕ) (xs : List ℕ) (at k : ℕ) (bytes : List ℕ) → is_quote q ≡ true → at < length xs → q ≡ get_or xs 0 q → k ≡ get_or xs at k → ¬ (k ≡ q) → Quoting q xs at bytes
+    → ((r : ℕ) → ¬ (get_or (take (length xs - at) (drop at xs)) 0 0 ≡ r) → NoPiece r (take (length xs - at) (drop at xs))) → EndsAt xs no_token
+bad_piece_at q xs at k bytes t lt f g n r h =
+    let m = not_there q xs at k lt g n in
+    bad_piece q xs at bytes t lt f m r (subst (NoPiece q) (take_rest xs at) (h q (λ e. m (sym (first_left xs at lt) ∙ e))))
+
+pub filled_first : (xs : List ℕ) → HasFirst is_quote xs → 0 < length xs
+filled_first [] h = absurd h
+filled_first (x ∷ xs) h = omega arith

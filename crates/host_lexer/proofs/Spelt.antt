@@ -350,7 +350,7 @@ mark_at_is marks.Slash rest h = refl
 mark_at_is marks.Percent rest h = refl
 mark_at_is marks.Not rest h = ap (λ b. Some (cond b marks.StrictNotEquals marks.Not)) h
 
-one_at_least : (m : Mark) → 1 ≤ length (mark_chars m)
+pub one_at_least : (m : Mark) → 1 ≤ length (mark_chars m)
 one_at_least marks.StrictEquals = lit≤ tt
 one_at_least marks.StrictNotEquals = lit≤ tt
 one_at_least marks.LessEquals = lit≤ tt

@@ -84,6 +84,23 @@ fn read_mark(chars: &[char]) -> Result<Lexeme, Failure>
     Ok(Lexeme::token(mark_len(mark), TokenKind::Mark(mark)))
 }
 
+// The comment or mark that begins some characters with `/`.
+fn read_slash(chars: &[char]) -> Result<Lexeme, Failure>
+    requires some { 0 < length chars.now }
+    requires slash { slice_index chars.now 0 ≡ 47 }
+    ensures found { IfOk result (λ l. Begins chars.now l.len l.kind l.line_end) }
+    ensures refused { IfErr result (λ e. Refuses e chars.now) }
+{
+    let second = char_or_null(chars, 1);
+    if second == '/' {
+        return Ok(read_line_comment(chars));
+    }
+    if second == '*' {
+        return read_block_comment(chars);
+    }
+    read_mark(chars)
+}
+
 // The element that begins some characters.
 fn read_element(alloc: Global, chars: &[char]) -> Result<Lexeme, Failure>
     requires { 0 < length chars.now }
@@ -106,11 +123,8 @@ fn read_element(alloc: Global, chars: &[char]) -> Result<Lexeme, Failure>
     if characters::is_quote(first) {
         return read_text(alloc, chars);
     }
-    if first == '/' && char_or_null(chars, 1) == '/' {
-        return Ok(read_line_comment(chars));
-    }
-    if first == '/' && char_or_null(chars, 1) == '*' {
-        return read_block_comment(chars);
+    if first == '/' {
+        return read_slash(chars);
     }
     read_mark(chars)
 }

@@ -1,15 +1,15 @@
-use Rattle.std.proofs.Common.{rules, ◌≡◌, ℕ, List, ◌∷◌, ◌<◌, ◌≤◌, MatchOption, IfOk, IfErr, length, ◌+◌, ◌-◌, ◌*◌, ◌/◌, ◌%◌, Bool, true, false, nat_eq, nat_lt, [], ◌++◌, slice_index_or, slice_set, bit_and, bit_or, Fits, w8, w32, w64, Bor, MutBor}
-use Rattle.host_lexer.specs.Steps.{EndsIn, NeverEnds, Begins, Refuses}
+use Rattle.host_lexer.proofs.Commented.{no_block, block_reads, block_separator}
 use Rattle.host_lexer.proofs.comments.read_block_comment.Goals as goal
 
--- src/comments.rt:36:9
 pub returns-in_default-clause-refused : goal.returns-in_default-clause-refused
-returns-in_default-clause-refused c = ?
+returns-in_default-clause-refused c = no_block c.args.chars.now c.requires c.in_default.ensures
 
--- src/comments.rt:40:9
-pub returns-in-Some-position-clause-refused : goal.returns-in-Some-position-clause-refused
-returns-in-Some-position-clause-refused c = ?
+pub returns-then-before-len-clause-refused : goal.returns-then-before-len-clause-refused
+returns-then-before-len-clause-refused c =
+    block_separator c.args.chars.now c.in-Some.len c.clean_len-before.result c.requires c.in-Some.ensures c.clean_len-before.ensures.len c.if-before-len.true
 
--- src/comments.rt:30:1
 pub returns-clause-found : goal.returns-clause-found
-returns-clause-found c = ?
+returns-clause-found c =
+    rw (c.blank.ensures.len, c.blank.ensures.kind, c.blank.ensures.line_end)
+    (block_reads c.args.chars.now c.in-Some.len c.clean_len-before.result c.has_line_end.result c.requires c.in-Some.ensures c.clean_len-before.ensures.len c.if-before-len.false
+    c.has_line_end.ensures)

@@ -1,16 +1,13 @@
-use Rattle.std.proofs.Common.{rules, ◌≡◌, ◌↔◌, IsTrue, ℕ, List, ◌∷◌, ◌++◌, ◌+◌, false, true, ◌<◌, ◌≤◌, ◌^◌, OnOk, IfOk, IfErr, IfSome, length, slice_index, slice_range, All, encode_utf8_all, ◌-◌, ◌*◌, ◌/◌, ◌%◌, Bool, nat_eq, nat_lt, [], slice_index_or, slice_set, bit_and, bit_or, Fits, w8, w32, w64, Bor, MutBor}
-use Rattle.std.specs.Char.{is_digit}
-use Rattle.host_lexer.specs.Characters.{HasFirst, is_name_start}
-use Rattle.host_lexer.specs.Tokens as spec
-use Rattle.host_lexer.specs.Tokens.{size_of, token_at, after_next, IsRead, Reading, told, InOrder, Spells}
-use Rattle.host_lexer.specs.Steps.{Begins, Refuses, IsRefusal, class_of, marked}
-use Rattle.host_lexer.specs.declared.token.LexError.TheVariants as errors
+use Rattle.std.proofs.Common.{◌∙◌, sym}
+use Rattle.host_lexer.proofs.Named.{name_reads, word_reads}
 use Rattle.host_lexer.proofs.lexer.read_name.Goals as goal
 
--- src/lexer.rt:52:9
 pub returns-in-Some-clause-found : goal.returns-in-Some-clause-found
-returns-in-Some-clause-found c = ?
+returns-in-Some-clause-found c =
+    rw (c.token.ensures.len, c.token.ensures.kind, c.token.ensures.line_end)
+    (word_reads c.args.chars.now c.name_len-len.result c.in-Some.word c.name_len-len.ensures.len (c.in-Some.ensures ∙ c.as_str.ensures ∙ c.in_ok-name.ensures))
 
--- src/lexer.rt:44:1
 pub returns-clause-found : goal.returns-clause-found
-returns-clause-found c = ?
+returns-clause-found c =
+    rw (c.token-2.ensures.len, c.token-2.ensures.kind, c.token-2.ensures.line_end, c.in_ok-name.ensures)
+    (name_reads c.args.chars.now c.name_len-len.result c.requires c.name_len-len.ensures.len (λ w e. c.in_default.ensures w (e ∙ sym c.in_ok-name.ensures ∙ sym c.as_str.ensures)))

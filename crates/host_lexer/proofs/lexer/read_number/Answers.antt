@@ -1,16 +1,13 @@
-use Rattle.std.proofs.Common.{rules, ◌≡◌, ◌↔◌, IsTrue, ℕ, List, ◌∷◌, ◌++◌, ◌+◌, false, true, ◌<◌, ◌≤◌, ◌^◌, OnOk, IfOk, IfErr, IfSome, length, slice_index, slice_range, All, encode_utf8_all, ◌-◌, ◌*◌, ◌/◌, ◌%◌, Bool, nat_eq, nat_lt, [], slice_index_or, slice_set, bit_and, bit_or, Fits, w8, w32, w64, Bor, MutBor}
-use Rattle.std.specs.Char.{is_digit}
-use Rattle.host_lexer.specs.Characters.{HasFirst, is_name_start}
-use Rattle.host_lexer.specs.Tokens as spec
-use Rattle.host_lexer.specs.Tokens.{size_of, token_at, after_next, IsRead, Reading, told, InOrder, Spells}
-use Rattle.host_lexer.specs.Steps.{Begins, Refuses, IsRefusal, class_of, marked}
-use Rattle.host_lexer.specs.declared.token.LexError.TheVariants as errors
+use Rattle.host_lexer.proofs.Named.{number_reads, no_number_begins, run_there}
 use Rattle.host_lexer.proofs.lexer.read_number.Goals as goal
 
--- src/lexer.rt:65:9
-pub returns-in_default-clause-refused : goal.returns-in_default-clause-refused
-returns-in_default-clause-refused c = ?
+pub number_kind-requires : goal.number_kind-requires
+number_kind-requires c = run_there c.args.chars.now c.number_len-len.result c.requires c.number_len-len.ensures.len
 
--- src/lexer.rt:58:1
+pub returns-in_default-clause-refused : goal.returns-in_default-clause-refused
+returns-in_default-clause-refused c = no_number_begins c.args.chars.now c.number_len-len.result c.requires c.number_len-len.ensures.len c.in_default.ensures
+
 pub returns-clause-found : goal.returns-clause-found
-returns-clause-found c = ?
+returns-clause-found c =
+    rw (c.token.ensures.len, c.token.ensures.kind, c.token.ensures.line_end)
+    (number_reads c.args.chars.now c.number_len-len.result c.in-Some.kind c.number_len-len.ensures.len c.in-Some.ensures)
