@@ -3,6 +3,7 @@ pub mod Commented
 pub mod Marked
 pub mod Named
 pub mod Numbered
+pub mod Ordered
 pub mod Pieces
 pub mod Quoted
 pub mod Reached

@@ -199,6 +199,13 @@ fn tokens_of(alloc: Global, chars: &[char]) -> Result<Vec<Token>, LexError>
     Ok(found)
 }
 
+// The characters of a text.
+fn characters_of(alloc: Global, text: &str) -> Result<Vec<char>, AllocError>
+    ensures { IfOk result (λ cs. encode_utf8_all cs.items ≡ text.now) }
+{
+    text.chars().collect(alloc)
+}
+
 /// The tokens of a script's text, from the first to the last, with white space and comments left out (ECMA-262,
 /// section 12, cut to the profile). `BadToken` and `NumberOutside` tell the byte of the first place where no token begins
 /// or ends well, or where what begins with a digit is no number of the profile.
@@ -217,6 +224,6 @@ pub fn tokens(alloc: Global, text: &str) -> Result<Vec<Token>, LexError>
     // The bytes of the text between a token's ends spell it.
     ensures spelled { IfOk result (λ ts. All (λ t. Spells (slice_range text.now t.from t.to) t.kind) ts.items) }
 {
-    let chars: Vec<char> = text.chars().collect(alloc)?;
-    tokens_of(alloc, &chars)
+    let chars = characters_of(alloc, text)?;
+    tokens_of(alloc, chars.as_slice())
 }
