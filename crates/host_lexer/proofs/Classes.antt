@@ -1,7 +1,7 @@
 -- What the first two characters tell of the element that they begin.
-use Rattle.std.specs.Prelude.{◌≡◌, ℕ, ◌<◌, Bool, true, false, cond, not, ◌&&◌, ◌||◌, ◌==◌, List, [], ◌∷◌, ◌++◌, ◌⊎◌, All, refl}
-use Rattle.std.specs.Char.{is_digit, digit_value, is_ascii_alphabetic}
-use Rattle.std.proofs.Common.{sym, ◌∙◌, ap, subst, arith, get_or, inl, inr}
+use Rattle.std.specs.Prelude.{◌≡◌, ℕ, ◌<◌, Bool, true, false, ◌||◌, ◌==◌, List, [], ◌∷◌, ◌++◌, ◌⊎◌, refl}
+use Rattle.std.specs.Char.{is_digit, is_ascii_alphabetic}
+use Rattle.std.proofs.Common.{sym, ◌∙◌, subst, arith, get_or, inl, inr}
 use Rattle.std.proofs.lemmas.List.{append_assoc}
 use Rattle.std.proofs.lemmas.List.Elements.{All-head}
 use Rattle.std.proofs.lemmas.Bool.Decides.{nat_tests}
@@ -10,8 +10,8 @@ use Rattle.unicode_ident.proofs.IdentLemmas.{is_xid_start-ascii}
 use Rattle.unicode_ident.specs.Ident.{is_xid_start}
 use Rattle.host_lexer.specs.declared.token.Mark.{Mark}
 use Rattle.host_lexer.specs.declared.token.Mark.TheVariants as marks
-use Rattle.host_lexer.specs.Characters.{is_space, is_line_end, is_quote, is_name_start, StopsAt}
-use Rattle.host_lexer.specs.Numerals.{Numeral, decimal, hexadecimal, numeral_chars, AreDigits, IsNumeral, IsDecimal}
+use Rattle.host_lexer.specs.Characters.{is_space, is_line_end, is_quote, is_name_start}
+use Rattle.host_lexer.specs.Numerals.{Numeral, decimal, hexadecimal, numeral_chars, IsNumeral}
 use Rattle.host_lexer.specs.Spellings.{word_chars, mark_chars}
 use Rattle.host_lexer.specs.Steps.{Class, named, numbered, blank, line, quoted, line_commented, block_commented, marked, class_of}
 use Rattle.host_lexer.specs.Tokens.{Element, space, line_end, line_comment, block_comment, name, word, number, big_int, text, mark, chars_of, IsElement, EndsBefore, IsIdentifier, BeginsNoComment}
@@ -47,18 +47,23 @@ space_class c d h = six (or_cases ((c == 9) || (c == 11) || (c == 12) || (c == 3
   where
     at : (k : ℕ) → (c == k) ≡ true → class_of k d ≡ blank → class_of c d ≡ blank
     at k e h = rw (is_it c k e) h
+
     two : ((c == 9) ≡ true) ⊎ ((c == 11) ≡ true) → class_of c d ≡ blank
     two (inl e) = at 9 e refl
     two (inr e) = at 11 e refl
+
     three : (((c == 9) || (c == 11)) ≡ true) ⊎ ((c == 12) ≡ true) → class_of c d ≡ blank
     three (inl e) = two (or_cases (c == 9) (c == 11) e)
     three (inr e) = at 12 e refl
+
     four : (((c == 9) || (c == 11) || (c == 12)) ≡ true) ⊎ ((c == 32) ≡ true) → class_of c d ≡ blank
     four (inl e) = three (or_cases ((c == 9) || (c == 11)) (c == 12) e)
     four (inr e) = at 32 e refl
+
     five : (((c == 9) || (c == 11) || (c == 12) || (c == 32)) ≡ true) ⊎ ((c == 160) ≡ true) → class_of c d ≡ blank
     five (inl e) = four (or_cases ((c == 9) || (c == 11) || (c == 12)) (c == 32) e)
     five (inr e) = at 160 e refl
+
     six : (((c == 9) || (c == 11) || (c == 12) || (c == 32) || (c == 160)) ≡ true) ⊎ ((c == 65279) ≡ true) → class_of c d ≡ blank
     six (inl e) = five (or_cases ((c == 9) || (c == 11) || (c == 12) || (c == 32)) (c == 160) e)
     six (inr e) = at 65279 e refl

@@ -1,19 +1,17 @@
 -- What the readers of comments show.
-use Rattle.std.specs.Prelude.{◌≡◌, ℕ, ◌+◌, ◌-◌, ◌<◌, ◌≤◌, zero, suc, Bool, true, false, not, ◌==◌, List, [], ◌∷◌, ◌++◌, length, take, drop, nat_lt, All, Option, Some, None, refl}
-use Rattle.std.specs.Char.{is_digit}
+use Rattle.std.specs.Prelude.{◌≡◌, ℕ, ◌+◌, ◌-◌, ◌<◌, ◌≤◌, zero, suc, Bool, true, false, not, ◌==◌, List, [], ◌∷◌, ◌++◌, length, take, drop, nat_lt, All, None, refl}
 use Rattle.std.specs.List.{prefix_len, list_any}
 use Rattle.std.proofs.Common.{sym, ◌∙◌, ap, subst, arith, get_or}
 use Rattle.std.proofs.lemmas.List.{append_assoc, take-append-drop, take_all, take_rest, drop-drop, drop_more, length-append, length-drop}
-use Rattle.std.proofs.lemmas.List.Elements.{All-nil, All-cons, All-weaker}
+use Rattle.std.proofs.lemmas.List.Elements.{All-weaker}
 use Rattle.std.proofs.lemmas.List.Folds.{length-prefix_len}
 use Rattle.std.proofs.lemmas.Bool.Decides.{nat_tests}
 use Rattle.unicode_ident.proofs.Computing.{unicode_ident}
-use Rattle.host_lexer.specs.Characters.{is_line_end, is_separator, is_comment_part, HasFirst, StopsAt, HasNoEnd}
-use Rattle.host_lexer.specs.Steps.{Begins, EndsIn, NeverEnds, block_commented}
-use Rattle.host_lexer.specs.Tokens.{Element, line_comment, block_comment, Heads, NoElement, EndsAt, no_token, separator}
-use Rattle.host_lexer.proofs.Numbered.{at_default}
+use Rattle.host_lexer.specs.Characters.{is_line_end, is_separator, is_comment_part, StopsAt, HasNoEnd}
+use Rattle.host_lexer.specs.Steps.{Begins, EndsIn, NeverEnds}
+use Rattle.host_lexer.specs.Tokens.{Element, line_comment, block_comment, Heads, EndsAt, no_token, separator}
 use Rattle.host_lexer.proofs.Runs.{run_of, run_passes, run_stops}
-use Rattle.host_lexer.proofs.Same.{class_heads, as_block, same_inside}
+use Rattle.host_lexer.proofs.Same.{class_heads, as_block}
 
 two_first : (a b : ℕ) (xs : List ℕ) → (r : List ℕ) × (xs ≡ a ∷ b ∷ r) → a ∷ b ∷ drop 2 xs ≡ xs
 two_first a b xs (r, e) = rw e refl
@@ -31,7 +29,9 @@ line_reads xs n b e =
         is_element = run_passes is_comment_part (drop 2 xs);
         ends = subst (StopsAt is_comment_part) d (run_stops is_comment_part (drop 2 xs));
       };
-      no_separator = tt; makes = refl; line_is = refl;
+      no_separator = tt;
+      makes = refl;
+      line_is = refl;
       size = let q = length-prefix_len is_comment_part (drop 2 xs) in omega (arith, q, k);
     }
 
@@ -143,10 +143,18 @@ block_separator xs len n b h e lt =
     let l : n < length ys = omega (arith, m, lt) in
     let d : drop n ys ≡ get_or ys n 0 ∷ drop (n + 1) ys = drop_more ys n 0 l in
     let s : take n ys ++ get_or ys n 0 ∷ drop (n + 1) ys ≡ ys = ap (λ y. take n ys ++ y) (sym d) ∙ take-append-drop n ys in
-    let k : StopsAt (λ c. not (is_separator c)) (drop n ys) = rw e' (run_stops (λ c. not (is_separator c)) ys) in
-    (take n ys, (get_or ys n 0, drop (n + 1) ys, drop (len + 4) xs, subst (λ y. Heads xs (block_comment y) (drop (len + 4) xs)) (sym s) (block_heads xs len b g),
+    let k : StopsAt (λ c. not (is_separator c)) (drop n ys) = rw e' (run_stops (λ c. not (is_separator c)) ys) in (
+      take n ys,
+      (
+        get_or ys n 0,
+        drop (n + 1) ys,
+        drop (len + 4) xs,
+        subst (λ y. Heads xs (block_comment y) (drop (len + 4) xs)) (sym s) (block_heads xs len b g),
         separates (get_or ys n 0) (drop (n + 1) ys) (subst (StopsAt (λ c. not (is_separator c))) d k),
-        clean (take n ys) (rw e' (run_passes (λ c. not (is_separator c)) ys))), sym (length_taken n ys (omega arith)))
+        clean (take n ys) (rw e' (run_passes (λ c. not (is_separator c)) ys)),
+      ),
+      sym (length_taken n ys (omega arith)),
+    )
   where
     separates : (c : ℕ) (cs : List ℕ) → StopsAt (λ c. not (is_separator c)) (c ∷ cs) → is_separator c ≡ true
     separates c cs h = on (is_separator c) h

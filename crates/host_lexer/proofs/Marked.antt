@@ -1,5 +1,5 @@
 -- What the reader of marks shows.
-use Rattle.std.specs.Prelude.{◌≡◌, ℕ, ◌<◌, Bool, true, false, cond, not, ◌&&◌, ◌||◌, ◌==◌, List, [], ◌∷◌, ◌++◌, length, drop, Option, Some, None, refl}
+use Rattle.std.specs.Prelude.{◌≡◌, ℕ, ◌<◌, Bool, true, false, not, ◌||◌, ◌==◌, List, [], ◌∷◌, ◌++◌, length, drop, Some, None, refl}
 use Rattle.std.specs.Char.{is_digit}
 use Rattle.std.proofs.Common.{sym, ◌∙◌, ap, subst, arith, get_or}
 use Rattle.std.proofs.lemmas.List.{drop_at}
@@ -7,11 +7,11 @@ use Rattle.unicode_ident.proofs.Computing.{unicode_ident}
 use Rattle.host_lexer.specs.declared.token.Mark.{Mark}
 use Rattle.host_lexer.specs.declared.token.Mark.TheVariants as marks
 use Rattle.host_lexer.specs.declared.token.TokenKind.TheVariants as kinds
-use Rattle.host_lexer.specs.Characters.{is_name_start, is_space, is_line_end, is_quote, HasFirst, StopsAt}
+use Rattle.host_lexer.specs.Characters.{StopsAt}
 use Rattle.host_lexer.specs.Spellings.{mark_chars}
-use Rattle.host_lexer.specs.Steps.{Begins, IsSpelt, mark_front, Class, named, numbered, blank, line, quoted, line_commented, block_commented, marked, class_of}
-use Rattle.host_lexer.specs.Tokens.{Element, mark, Heads, NoElement, EndsAt, no_token, BeginsNoComment}
-use Rattle.host_lexer.proofs.Classes.{class_at, class_is, digit_class}
+use Rattle.host_lexer.specs.Steps.{Begins, IsSpelt, mark_front, line_commented, block_commented, marked, class_of}
+use Rattle.host_lexer.specs.Tokens.{Element, mark, Heads, EndsAt, no_token, BeginsNoComment}
+use Rattle.host_lexer.proofs.Classes.{class_at, digit_class}
 use Rattle.host_lexer.proofs.Numbered.{at_default}
 use Rattle.host_lexer.proofs.Same.{class_heads, as_mark}
 use Rattle.host_lexer.proofs.Spelt.{mark_at, goes_on, mark_at_is, longest_stops, is_longest, found_mark}

@@ -1,18 +1,18 @@
 -- What the readers of names, numbers and single characters show, and the sizes of characters in bytes.
-use Rattle.std.specs.Prelude.{◌≡◌, ℕ, ◌+◌, ◌-◌, ◌<◌, ◌≤◌, suc, Bool, true, false, cond, not, ◌==◌, List, [], ◌∷◌, ◌++◌, length, take, drop, All, Option, Some, None, encode_utf8, encode_utf8_all, refl}
+use Rattle.std.specs.Prelude.{◌≡◌, ℕ, ◌+◌, ◌<◌, ◌≤◌, true, false, List, [], ◌∷◌, ◌++◌, length, take, drop, Some, None, encode_utf8, encode_utf8_all, refl}
 use Rattle.std.specs.Char.{is_digit}
 use Rattle.std.specs.List.{prefix_len}
 use Rattle.std.proofs.Common.{sym, ◌∙◌, ap, subst, arith, get_or}
-use Rattle.std.proofs.lemmas.List.{append-nil, take-append-drop, take_more, drop_at, drop_more, length-append}
+use Rattle.std.proofs.lemmas.List.{append-nil, take-append-drop, take_more, length-append}
 use Rattle.std.proofs.lemmas.List.Folds.{length-prefix_len}
 use Rattle.std.proofs.lemmas.Str.{encodes-append, encodes_same}
 use Rattle.host_lexer.specs.declared.token.Word.{Word}
 use Rattle.host_lexer.specs.declared.token.TokenKind.{TokenKind}
 use Rattle.host_lexer.specs.declared.token.TokenKind.TheVariants as kinds
-use Rattle.host_lexer.specs.Characters.{is_space, is_line_end, is_name_start, is_name_part, is_number_part, HasFirst, StopsAt}
+use Rattle.host_lexer.specs.Characters.{is_space, is_line_end, is_name_start, is_name_part, is_number_part, HasFirst}
 use Rattle.host_lexer.specs.Spellings.{word_chars}
 use Rattle.host_lexer.specs.Steps.{Begins, HasNumber, NoNumber, Numeric, whole, big, element_of, numbered}
-use Rattle.host_lexer.specs.Tokens.{Element, space, line_end, line_comment, block_comment, name, word, number, big_int, text, mark, chars_of, IsElement, IsIdentifier, Heads, NoElement, EndsAt, no_number, size_of, kind_of, has_line_end, HasNoSeparator}
+use Rattle.host_lexer.specs.Tokens.{Element, space, line_end, name, word, number, big_int, chars_of, IsElement, IsIdentifier, Heads, EndsAt, no_number, size_of, kind_of}
 use Rattle.host_lexer.proofs.Classes.{class_is, digit_class}
 use Rattle.host_lexer.proofs.Runs.{run_of, run_is, run_cons, run_passes, run_stops}
 use Rattle.host_lexer.proofs.Same.{class_heads, part_from_start, numeral_parts, big_parts, digit_part}
@@ -32,18 +32,22 @@ name_reads xs n h e none = record {
     is_element = (rw e (run_identifier xs h), λ w q. none w (sym (word_bytes w) ∙ ap encode_utf8_all q));
     ends = rw e (run_stops is_name_part xs);
   };
-  no_separator = tt; makes = refl; line_is = refl;
+  no_separator = tt;
+  makes = refl;
+  line_is = refl;
   size = e ∙ sym (length-prefix_len is_name_part xs) ∙ ap (λ m. length (take m xs)) (sym e);
 }
 
 pub word_reads : (xs : List ℕ) (n : ℕ) (w : Word) → n ≡ prefix_len is_name_part xs → word_chars w ≡ encode_utf8_all (take n xs) → Begins xs n (Some (kinds.Word w)) false
 word_reads xs n w e q =
     let k : word_chars w ≡ take n xs = encodes_same (word_chars w) (take n xs) (word_bytes w ∙ q) in record {
-  element = word w;
-  heads = record { spell = ap (λ y. y ++ drop n xs) k ∙ take-append-drop n xs; is_element = tt; ends = rw e (run_stops is_name_part xs) };
-  no_separator = tt; makes = refl; line_is = refl;
-  size = e ∙ sym (length-prefix_len is_name_part xs) ∙ ap (λ m. length (take m xs)) (sym e) ∙ ap length (sym k);
-}
+      element = word w;
+      heads = record { spell = ap (λ y. y ++ drop n xs) k ∙ take-append-drop n xs; is_element = tt; ends = rw e (run_stops is_name_part xs) };
+      no_separator = tt;
+      makes = refl;
+      line_is = refl;
+      size = e ∙ sym (length-prefix_len is_name_part xs) ∙ ap (λ m. length (take m xs)) (sym e) ∙ ap length (sym k);
+    }
 
 -- numbers
 pub number_reads : (xs : List ℕ) (n : ℕ) (kind : TokenKind) → n ≡ prefix_len is_number_part xs → HasNumber (take n xs) kind → Begins xs n (Some kind) false
@@ -51,16 +55,23 @@ number_reads xs n kind e h = on h.numeric h.spell h.is_element h.makes
   where
     size : length (take n xs) ≡ n
     size = ap (λ m. length (take m xs)) e ∙ length-prefix_len is_number_part xs ∙ sym e
+
     on : (m : Numeric) → chars_of (element_of m) ≡ take n xs → IsElement (element_of m) → kind_of (element_of m) ≡ Some kind → Begins xs n (Some kind) false
     on (whole m) s i k = record {
       element = number m;
       heads = record { spell = ap (λ y. y ++ drop n xs) s ∙ take-append-drop n xs; is_element = i; ends = rw e (run_stops is_number_part xs) };
-      no_separator = tt; makes = k; line_is = refl; size = sym size ∙ ap length (sym s);
+      no_separator = tt;
+      makes = k;
+      line_is = refl;
+      size = sym size ∙ ap length (sym s);
     }
     on (big m) s i k = record {
       element = big_int m;
       heads = record { spell = ap (λ y. y ++ drop n xs) s ∙ take-append-drop n xs; is_element = i; ends = rw e (run_stops is_number_part xs) };
-      no_separator = tt; makes = k; line_is = refl; size = sym size ∙ ap length (sym s);
+      no_separator = tt;
+      makes = k;
+      line_is = refl;
+      size = sym size ∙ ap length (sym s);
     }
 
 as_number : (e : Element) → class_is e ≡ numbered → (m : Numeric) × (e ≡ element_of m)
@@ -88,15 +99,23 @@ run_there (c ∷ cs) n h e = let q = ap length (run_cons is_number_part c cs tru
 pub space_reads : (xs : List ℕ) (c : ℕ) → 0 < length xs → c ≡ get_or xs 0 c → is_space c ≡ true → Begins xs 1 None false
 space_reads [] c lt g h = absurd (omega arith)
 space_reads (x ∷ xs) c lt g h = record {
-  element = space x; heads = record { spell = refl; is_element = subst (λ y. is_space y ≡ true) g h; ends = tt };
-  no_separator = tt; makes = refl; line_is = refl; size = refl;
+  element = space x;
+  heads = record { spell = refl; is_element = subst (λ y. is_space y ≡ true) g h; ends = tt };
+  no_separator = tt;
+  makes = refl;
+  line_is = refl;
+  size = refl;
 }
 
 pub line_end_reads : (xs : List ℕ) (c : ℕ) → 0 < length xs → c ≡ get_or xs 0 c → is_line_end c ≡ true → Begins xs 1 None true
 line_end_reads [] c lt g h = absurd (omega arith)
 line_end_reads (x ∷ xs) c lt g h = record {
-  element = line_end x; heads = record { spell = refl; is_element = subst (λ y. is_line_end y ≡ true) g h; ends = tt };
-  no_separator = tt; makes = refl; line_is = refl; size = refl;
+  element = line_end x;
+  heads = record { spell = refl; is_element = subst (λ y. is_line_end y ≡ true) g h; ends = tt };
+  no_separator = tt;
+  makes = refl;
+  line_is = refl;
+  size = refl;
 }
 
 pub two_there : (xs : List ℕ) (c a b : ℕ) → 0 < length xs → c ≡ get_or xs 0 c → c ≡ a → get_or xs 1 0 ≡ b → ¬ (0 ≡ b) → (r : List ℕ) × (xs ≡ a ∷ b ∷ r)

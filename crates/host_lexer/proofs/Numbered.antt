@@ -1,17 +1,15 @@
 -- Digits and the number that they stand for, and what the reader of numbers shows.
-use Rattle.std.specs.Prelude.{◌≡◌, ℕ, ◌+◌, ◌-◌, ◌*◌, ◌^◌, ◌<◌, ◌≤◌, suc, true, false, ◌==◌, List, [], ◌∷◌, ◌++◌, length, fold, All, take, drop, Option, Some, None, MatchOption, refl}
+use Rattle.std.specs.Prelude.{◌≡◌, ℕ, ◌+◌, ◌-◌, ◌*◌, ◌<◌, ◌≤◌, true, false, ◌==◌, List, [], ◌∷◌, ◌++◌, length, fold, All, take, drop, Option, Some, None, MatchOption, refl}
 use Rattle.std.specs.Char.{is_digit, digit_value}
 use Rattle.std.proofs.Common.{sym, ◌∙◌, ap, subst, arith, get_or}
 use Rattle.std.proofs.Math.Nat.{mul-le-mul_left}
 use Rattle.std.proofs.lemmas.List.{take-append-drop, take_more, take_all, take_rest, append_cancel_right, drop_more, length-append}
-use Rattle.std.proofs.lemmas.List.Elements.{All-nil, All-cons, All-head, All-tail, All-get_or, All-append}
+use Rattle.std.proofs.lemmas.List.Elements.{All-nil, All-cons, All-append}
 use Rattle.std.proofs.lemmas.Grind.{fold-append}
 use Rattle.std.proofs.lemmas.Bool.Decides.{nat_tests}
-use Rattle.host_lexer.specs.declared.token.TokenKind.{TokenKind}
 use Rattle.host_lexer.specs.declared.token.TokenKind.TheVariants as kinds
-use Rattle.host_lexer.specs.Numerals.{Numeral, decimal, hexadecimal, numeral_chars, value_in, value_of, AreDigits, IsDecimal, IsNumeral, greatest_number, greatest_big_int}
-use Rattle.host_lexer.specs.Steps.{AreDigitsUpTo, HasNumeral, NoNumeral, Numeric, whole, big, element_of, HasNumber, NoNumber}
-use Rattle.host_lexer.specs.Tokens.{chars_of, IsElement}
+use Rattle.host_lexer.specs.Numerals.{Numeral, decimal, hexadecimal, numeral_chars, value_in, AreDigits, IsDecimal, IsNumeral, greatest_number, greatest_big_int}
+use Rattle.host_lexer.specs.Steps.{AreDigitsUpTo, HasNumeral, NoNumeral, whole, big, HasNumber, NoNumber}
 use Rattle.host_lexer.proofs.Same.{numeral_no_n, has_n, decimal_digits}
 
 -- more digits stand for no smaller number
@@ -72,9 +70,11 @@ as_decimal (c ∷ cs) g k (Some v) lt is n a b = record { numeral = decimal (c �
 pub zero_numeral : (xs : List ℕ) (g k : ℕ) → length xs ≡ 1 → k ≡ get_or xs 0 k → k ≡ 48 → HasNumeral xs g 0
 zero_numeral [] g k l is e = absurd (omega (arith, l))
 zero_numeral (c ∷ []) g k l is e = record {
-  numeral = decimal (48 ∷ []); spell = ap (λ x. x ∷ []) (sym (sym is ∙ e));
+  numeral = decimal (48 ∷ []);
+  spell = ap (λ x. x ∷ []) (sym (sym is ∙ e));
   is_numeral = All-cons (λ x. is_digit x 10 ≡ true) 48 [] refl (All-nil (λ x. is_digit x 10 ≡ true));
-  value_is = refl; small = omega arith;
+  value_is = refl;
+  small = omega arith;
 }
 zero_numeral (c ∷ d ∷ cs) g k l is e = absurd (omega (arith, l))
 
@@ -100,10 +100,13 @@ as_hexadecimal xs g k r (d, rest, e) is x l a b = on r a b
   where
     ds_are : take (length xs - 2) (drop 2 xs) ≡ rest
     ds_are = take_rest xs 2 ∙ ap (drop 2) e
+
     x_is : d ≡ 120
     x_is = ap (λ y. get_or y 1 k) (sym e) ∙ sym is ∙ x
+
     filled : ¬ (rest ≡ [])
     filled q = l (ap length e ∙ ap (λ y. length (48 ∷ d ∷ y)) q)
+
     on : (r : Option ℕ) → MatchOption r (¬ AreDigitsUpTo 16 g (take (length xs - 2) (drop 2 xs))) (λ v. v ≡ value_in 16 (take (length xs - 2) (drop 2 xs)))
         → MatchOption r (Unit {0}) (λ v. AreDigitsUpTo 16 g (take (length xs - 2) (drop 2 xs))) → MatchOption r (NoNumeral xs g) (λ v. HasNumeral xs g v)
     on None a b = never

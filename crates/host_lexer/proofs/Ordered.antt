@@ -1,10 +1,10 @@
 -- The tokens of a text stand in order and apart, and the bytes between a token's ends spell it.
-use Rattle.std.specs.Prelude.{◌≡◌, ℕ, ◌+◌, ◌-◌, ◌<◌, ◌≤◌, Bool, true, false, List, [], ◌∷◌, ◌++◌, length, take, drop, All, Option, Some, None, Result, Ok, Err, IfOk, IfSome, encode_utf8_all, refl}
+use Rattle.std.specs.Prelude.{◌≡◌, ℕ, ◌+◌, ◌-◌, ◌<◌, ◌≤◌, Bool, false, List, [], ◌∷◌, ◌++◌, length, take, drop, All, Option, Some, None, Result, Ok, Err, IfOk, IfSome, encode_utf8_all, refl}
 use Rattle.std.specs.declared.alloc.Global.{Global}
 use Rattle.std.specs.declared.vec.Vec.{Vec}
 use Rattle.std.specs.List.{slice_range}
 use Rattle.std.proofs.Common.{sym, ◌∙◌, ap, subst, arith}
-use Rattle.std.proofs.lemmas.List.{append_assoc, append-nil, drop-drop, drop_at, take_at, length-append}
+use Rattle.std.proofs.lemmas.List.{append_assoc, append-nil, drop-drop, drop_at, take_at}
 use Rattle.std.proofs.lemmas.List.Elements.{All-nil, All-cons}
 use Rattle.std.proofs.lemmas.Str.{encodes-append, length-le-encodes}
 use Rattle.host_lexer.specs.declared.token.Token.{Token}
@@ -14,7 +14,7 @@ use Rattle.host_lexer.specs.Numerals.{value_of}
 use Rattle.host_lexer.specs.Texts.{text_of}
 use Rattle.host_lexer.specs.declared.token.LexError.{LexError}
 use Rattle.host_lexer.specs.declared.token.LexError.TheVariants as errors
-use Rattle.host_lexer.specs.Tokens.{Element, space, line_end, line_comment, block_comment, name, word, number, big_int, text, mark, chars_of, spelled, IsElement, AreElements, End, at_end, no_token, separator, no_number, size_of, kind_of, has_line_end, token_at, after_next, tokens_from, Reading, tokens, reading_of, IsRead, IsTokenKind, InOrder, Spells, told}
+use Rattle.host_lexer.specs.Tokens.{Element, space, line_end, line_comment, block_comment, name, word, number, big_int, text, mark, chars_of, spelled, IsElement, AreElements, End, at_end, no_token, separator, no_number, size_of, kind_of, has_line_end, token_at, after_next, tokens_from, tokens, reading_of, IsRead, IsTokenKind, InOrder, Spells, told}
 use Rattle.host_lexer.proofs.Named.{size_append}
 use Rattle.host_lexer.proofs.Reached.{filled}
 
@@ -43,6 +43,7 @@ order (d ∷ es) left low at len after h e a = on (λ l f g. order es left l (at
   where
     within : at + size_of (chars_of d) + size_of (spelled es) ≤ len
     within = omega (arith, size_append (chars_of d) (spelled es), e)
+
     on : ((l : ℕ) (f : Bool) → l ≤ at + size_of (chars_of d) → InOrder l len (tokens_from (at + size_of (chars_of d)) f es)) → (k : Option TokenKind) → kind_of d ≡ k → InOrder low len (token_at at (size_of (chars_of d)) after k ++ tokens_from (at + size_of (chars_of d)) (after_next after (has_line_end d) k) es)
     on ih None q = ih low (after_next after (has_line_end d) None) (omega arith)
     on ih (Some k) q = (h, (let t = has_size d a.0 in omega (arith, t)), kind_can_be d k a.0 q, ih (at + size_of (chars_of d)) (after_next after (has_line_end d) (Some k)) (omega arith))
@@ -57,11 +58,14 @@ spells bytes (d ∷ es) left at after e a = on (λ f. spells bytes es left (at +
   where
     parts : encode_utf8_all (chars_of d) ++ encode_utf8_all (spelled es ++ left) ≡ drop at bytes
     parts = sym (encodes-append (chars_of d) (spelled es ++ left)) ∙ ap encode_utf8_all (sym (append_assoc (chars_of d) (spelled es) left)) ∙ e
+
     rest : encode_utf8_all (spelled es ++ left) ≡ drop (at + size_of (chars_of d)) bytes
     rest = sym (drop_at (encode_utf8_all (chars_of d)) (encode_utf8_all (spelled es ++ left)) (size_of (chars_of d)) refl) ∙ ap (drop (size_of (chars_of d))) parts ∙ drop-drop (size_of (chars_of d)) at bytes
+
     cut : slice_range bytes at (at + size_of (chars_of d)) ≡ encode_utf8_all (chars_of d)
     cut = let k : (at + size_of (chars_of d)) - at ≡ size_of (chars_of d) = omega arith in
         ap (λ n. take n (drop at bytes)) k ∙ ap (take (size_of (chars_of d))) (sym parts) ∙ take_at (encode_utf8_all (chars_of d)) (encode_utf8_all (spelled es ++ left)) (size_of (chars_of d)) refl
+
     on : ((f : Bool) → All (IsSpelled bytes) (tokens_from (at + size_of (chars_of d)) f es)) → (k : Option TokenKind) → kind_of d ≡ k → All (IsSpelled bytes) (token_at at (size_of (chars_of d)) after k ++ tokens_from (at + size_of (chars_of d)) (after_next after (has_line_end d) k) es)
     on ih None q = ih (after_next after (has_line_end d) None)
     on ih (Some k) q = All-cons (IsSpelled bytes) _ _ (record { element = d; spell = sym cut; is_element = a.0; is_its = q }) (ih (after_next after (has_line_end d) (Some k)))
@@ -71,6 +75,7 @@ in_order bytes ts h = on h.ending h.tells
   where
     len : 0 + size_of (spelled h.elements) ≤ length bytes
     len = let p = ap length h.spell in let q = size_append (spelled h.elements) h.left in omega (arith, p, q)
+
     on : (o : End) → reading_of h.elements o ≡ tokens ts → InOrder 0 (length bytes) ts
     on at_end t = let q : tokens_from 0 false h.elements ≡ ts = cc in subst (InOrder 0 (length bytes)) q (order h.elements h.left 0 0 (length bytes) false (omega arith) len h.are_elements)
     on no_token t = cc

@@ -1,15 +1,15 @@
 -- The one piece that may begin some characters of a text, and the one row of pieces before a quote.
-use Rattle.std.specs.Prelude.{◌≡◌, ℕ, ◌+◌, ◌<◌, Bool, true, false, cond, not, ◌||◌, ◌==◌, List, [], ◌∷◌, ◌++◌, ◌⊎◌, length, take, drop, All, Option, Some, None, refl}
-use Rattle.std.specs.Char.{is_digit, is_ascii_digit, IsScalar}
+use Rattle.std.specs.Prelude.{◌≡◌, ℕ, Bool, true, false, cond, ◌||◌, ◌==◌, List, [], ◌∷◌, ◌++◌, ◌⊎◌, length, take, Option, Some, None, refl}
+use Rattle.std.specs.Char.{is_digit}
 use Rattle.std.proofs.Common.{sym, ◌∙◌, ap, subst, arith, inl, inr}
 use Rattle.std.proofs.lemmas.List.{append_assoc, append_cancel_left, take_at}
 use Rattle.std.proofs.lemmas.List.Elements.{All-head}
 use Rattle.std.proofs.lemmas.Bool.Decides.{nat_tests}
-use Rattle.host_lexer.specs.Characters.{is_line_end, is_quote, StopsAt}
-use Rattle.host_lexer.specs.Numerals.{value_in, AreDigits}
+use Rattle.host_lexer.specs.Characters.{is_quote}
+use Rattle.host_lexer.specs.Numerals.{AreDigits}
 use Rattle.host_lexer.specs.Texts.{Piece, plain, letter, null, byte, unit, braced, piece_chars, is_letter, IsPiece, pieces_chars, ArePieces}
 use Rattle.host_lexer.proofs.Runs.{run_of, run_is}
-use Rattle.host_lexer.proofs.Classes.{or_cases, is_it, quote_is}
+use Rattle.host_lexer.proofs.Classes.{or_cases, is_it}
 
 abbrev pub is_hex : ℕ → Bool
 is_hex c = is_digit c 16
@@ -35,18 +35,23 @@ letter_front c rest h = six (or_cases ((c == 110) || (c == 116) || (c == 114) ||
   where
     at : (k : ℕ) → (c == k) ≡ true → escape_front (k ∷ rest) ≡ Some (letter k) → escape_front (c ∷ rest) ≡ Some (letter c)
     at k e h = let q : k ≡ c = sym (is_it c k e) in subst (λ x. escape_front (x ∷ rest) ≡ Some (letter x)) q h
+
     two : ((c == 110) ≡ true) ⊎ ((c == 116) ≡ true) → escape_front (c ∷ rest) ≡ Some (letter c)
     two (inl e) = at 110 e refl
     two (inr e) = at 116 e refl
+
     three : (((c == 110) || (c == 116)) ≡ true) ⊎ ((c == 114) ≡ true) → escape_front (c ∷ rest) ≡ Some (letter c)
     three (inl e) = two (or_cases (c == 110) (c == 116) e)
     three (inr e) = at 114 e refl
+
     four : (((c == 110) || (c == 116) || (c == 114)) ≡ true) ⊎ ((c == 92) ≡ true) → escape_front (c ∷ rest) ≡ Some (letter c)
     four (inl e) = three (or_cases ((c == 110) || (c == 116)) (c == 114) e)
     four (inr e) = at 92 e refl
+
     five : (((c == 110) || (c == 116) || (c == 114) || (c == 92)) ≡ true) ⊎ ((c == 34) ≡ true) → escape_front (c ∷ rest) ≡ Some (letter c)
     five (inl e) = four (or_cases ((c == 110) || (c == 116) || (c == 114)) (c == 92) e)
     five (inr e) = at 34 e refl
+
     six : (((c == 110) || (c == 116) || (c == 114) || (c == 92) || (c == 34)) ≡ true) ⊎ ((c == 39) ≡ true) → escape_front (c ∷ rest) ≡ Some (letter c)
     six (inl e) = five (or_cases ((c == 110) || (c == 116) || (c == 114) || (c == 92)) (c == 34) e)
     six (inr e) = at 39 e refl
@@ -109,8 +114,8 @@ same_pieces q [] (s ∷ ss) rest left t e h g = absurd (no_quote q s (pieces_cha
 same_pieces q (p ∷ ps) [] rest left t e h g = absurd (no_quote q p (pieces_chars ps ++ q ∷ rest) left t h.0 (sym (append_assoc (piece_chars p) (pieces_chars ps) (q ∷ rest)) ∙ e))
 same_pieces q (p ∷ ps) (s ∷ ss) rest left t e h g =
     let k : piece_chars p ++ (pieces_chars ps ++ q ∷ rest) ≡ piece_chars s ++ (pieces_chars ss ++ q ∷ left) =
-        sym (append_assoc (piece_chars p) (pieces_chars ps) (q ∷ rest)) ∙ e ∙ append_assoc (piece_chars s) (pieces_chars ss) (q ∷ left) in
+    sym (append_assoc (piece_chars p) (pieces_chars ps) (q ∷ rest)) ∙ e ∙ append_assoc (piece_chars s) (pieces_chars ss) (q ∷ left) in
     let same : p ≡ s = same_piece q q p s (pieces_chars ps ++ q ∷ rest) (pieces_chars ss ++ q ∷ left) k h.0 g.0 in
     let l : pieces_chars ps ++ q ∷ rest ≡ pieces_chars ss ++ q ∷ left =
-        append_cancel_left (piece_chars p) (pieces_chars ps ++ q ∷ rest) (pieces_chars ss ++ q ∷ left) (k ∙ ap (λ x. piece_chars x ++ (pieces_chars ss ++ q ∷ left)) (sym same)) in
+    append_cancel_left (piece_chars p) (pieces_chars ps ++ q ∷ rest) (pieces_chars ss ++ q ∷ left) (k ∙ ap (λ x. piece_chars x ++ (pieces_chars ss ++ q ∷ left)) (sym same)) in
     let m : ps ≡ ss = same_pieces q ps ss rest left t l h.1 g.1 in cc

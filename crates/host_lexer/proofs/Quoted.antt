@@ -1,23 +1,21 @@
 -- How far the reader of a text has come, and what each of its pieces shows.
-use Rattle.std.specs.Prelude.{◌≡◌, ℕ, ◌+◌, ◌-◌, ◌<◌, ◌≤◌, suc, Bool, true, false, cond, not, ◌==◌, List, [], ◌∷◌, ◌++◌, length, take, drop, map, All, Option, Some, None, MatchOption, encode_utf8, encode_utf8_all, refl}
-use Rattle.std.specs.Char.{is_digit, is_ascii_digit, IsScalar}
+use Rattle.std.specs.Prelude.{◌≡◌, ℕ, ◌+◌, ◌-◌, ◌<◌, ◌≤◌, true, false, not, List, [], ◌∷◌, ◌++◌, length, take, drop, map, Option, Some, None, MatchOption, encode_utf8, encode_utf8_all, refl}
+use Rattle.std.specs.Char.{is_digit}
 use Rattle.std.specs.List.{prefix_len}
 use Rattle.std.proofs.Common.{sym, ◌∙◌, ap, subst, arith, get_or}
 use Rattle.std.proofs.lemmas.List.{append_assoc, append-nil, append_cancel_left, take-append-drop, drop-drop, drop_more, drop_all, drop_at, take_rest, length-append, length-drop, map-append}
 use Rattle.std.proofs.lemmas.List.Folds.{length-prefix_len}
-use Rattle.std.proofs.lemmas.List.Sums.{prefix_len-le-length}
 use Rattle.std.proofs.lemmas.Str.{encodes-append}
 use Rattle.std.proofs.lemmas.Bool.Decides.{nat_tests}
 use Rattle.host_lexer.specs.declared.token.TokenKind.TheVariants as kinds
-use Rattle.host_lexer.specs.Characters.{is_quote, is_line_end, HasFirst, StopsAt}
-use Rattle.host_lexer.specs.Numerals.{value_in, AreDigits}
+use Rattle.host_lexer.specs.Characters.{is_quote, is_line_end, HasFirst}
 use Rattle.host_lexer.specs.Texts.{Piece, plain, letter, null, byte, unit, braced, is_letter, code_of_letter, piece_chars, IsPiece, pieces_chars, ArePieces, code_of, text_of}
-use Rattle.host_lexer.specs.Steps.{HasPiece, NoPiece, HasDigits, NoDigits, Begins, quoted}
-use Rattle.host_lexer.specs.Tokens.{Element, text, Heads, NoElement, EndsAt, no_token}
-use Rattle.host_lexer.proofs.Classes.{class_at, class_is, quote_class, quote_is}
+use Rattle.host_lexer.specs.Steps.{HasPiece, NoPiece, HasDigits, NoDigits, Begins}
+use Rattle.host_lexer.specs.Tokens.{Element, text, Heads, EndsAt, no_token}
+use Rattle.host_lexer.proofs.Classes.{quote_class}
 use Rattle.host_lexer.proofs.Numbered.{at_default}
-use Rattle.host_lexer.proofs.Pieces.{is_hex, piece_front, fronted_piece, same_piece, no_quote, pieces_go, piece_goes, differs}
-use Rattle.host_lexer.proofs.Runs.{run_of, run_is, run_passes, run_stops}
+use Rattle.host_lexer.proofs.Pieces.{is_hex, piece_front, fronted_piece, same_piece, pieces_go, differs}
+use Rattle.host_lexer.proofs.Runs.{run_of}
 use Rattle.host_lexer.proofs.Same.{class_heads, as_text}
 
 -- where the one piece that may begin can't, none begins
@@ -137,6 +135,7 @@ no_unit q xs e other never = on (drop 2 xs) refl
   where
     at_two : (d : ℕ) (ds : List ℕ) → drop 2 xs ≡ d ∷ ds → ¬ (d ≡ 123)
     at_two d ds f z = other (ap (λ y. get_or y 2 0) (e ∙ ap (λ y. 92 ∷ 117 ∷ y) f) ∙ z)
+
     last : (d : ℕ) (ds : List ℕ) → drop 2 xs ≡ d ∷ ds → (p : Piece) (rest : List ℕ) → Some (unit (take 4 (d ∷ ds))) ≡ Some p → piece_chars p ++ rest ≡ xs → IsPiece q p rest → ⊥
     last d ds f p rest g s h =
         let us : List ℕ = take 4 (d ∷ ds) in
@@ -144,6 +143,7 @@ no_unit q xs e other never = on (drop 2 xs) refl
         let t : 92 ∷ 117 ∷ (us ++ rest) ≡ 92 ∷ 117 ∷ drop 2 xs = subst (λ x. piece_chars x ++ rest ≡ xs) k s ∙ e in
         let u : us ++ rest ≡ drop 2 xs = cc in
         let i : IsPiece q (unit us) rest = subst (λ x. IsPiece q x rest) k h in never us rest u i.0 i.1 i.2
+
     on : (ys : List ℕ) → drop 2 xs ≡ ys → NoPiece q xs
     on [] f = no_piece q xs None (ap piece_front (e ∙ ap (λ y. 92 ∷ 117 ∷ y) f)) (λ p rest g s h. cc)
     on (d ∷ ds) f = no_piece q xs (Some (unit (take 4 (d ∷ ds)))) (ap piece_front (e ∙ ap (λ y. 92 ∷ 117 ∷ y) f) ∙ rw (differs d 123 (at_two d ds f)) refl) (last d ds f)
@@ -173,7 +173,11 @@ pub record Quoting (q : ℕ) (chars : List ℕ) (at : ℕ) (bytes : List ℕ) : 
 pub quoting : (q : ℕ) (xs : List ℕ) → 0 < length xs → q ≡ get_or xs 0 q → Quoting q xs 1 []
 quoting q [] lt g = absurd (omega arith)
 quoting q (x ∷ xs) lt g = record {
-  pieces = []; spell = ap (λ y. y ∷ xs) g; are_pieces = tt; bytes_are = refl; size = refl;
+  pieces = [];
+  spell = ap (λ y. y ∷ xs) g;
+  are_pieces = tt;
+  bytes_are = refl;
+  size = refl;
   goes_on = λ all rest e a. (all, (let k : pieces_chars all ++ q ∷ rest ≡ xs = cc in k), a);
 }
 
@@ -211,9 +215,12 @@ piece_step q xs at len code bytes lt other h g =
     more tail (p ∷ ps, e, a) =
         let rest : drop len (drop at xs) ≡ drop (at + len) xs = drop-drop len at xs in
         let k : piece_chars p ++ (pieces_chars ps ++ q ∷ tail) ≡ drop at xs = sym (append_assoc (piece_chars p) (pieces_chars ps) (q ∷ tail)) ∙ e in
-        let same : p ≡ h.piece = same_piece q q p h.piece (pieces_chars ps ++ q ∷ tail) (drop len (drop at xs)) (k ∙ sym h.spell) a.0 h.is_piece in
-        (ps, append_cancel_left (piece_chars h.piece) (pieces_chars ps ++ q ∷ tail) (drop (at + len) xs)
-            (ap (λ x. piece_chars x ++ (pieces_chars ps ++ q ∷ tail)) (sym same) ∙ k ∙ sym h.spell ∙ ap (λ y. piece_chars h.piece ++ y) rest), a.1)
+        let same : p ≡ h.piece = same_piece q q p h.piece (pieces_chars ps ++ q ∷ tail) (drop len (drop at xs)) (k ∙ sym h.spell) a.0 h.is_piece in (
+          ps,
+          append_cancel_left (piece_chars h.piece) (pieces_chars ps ++ q ∷ tail) (drop (at + len) xs)
+              (ap (λ x. piece_chars x ++ (pieces_chars ps ++ q ∷ tail)) (sym same) ∙ k ∙ sym h.spell ∙ ap (λ y. piece_chars h.piece ++ y) rest),
+          a.1,
+        )
 
 pub quote_closes : (q : ℕ) (xs : List ℕ) (at : ℕ) (bytes : List ℕ) → is_quote q ≡ true → at < length xs → get_or xs at 0 ≡ q → Quoting q xs at bytes → Begins xs (at + 1) (Some (kinds.Text bytes)) false
 quote_closes q xs at bytes t lt e g =

@@ -1,5 +1,5 @@
 -- How far the reader has come, and that a text is read in one way.
-use Rattle.std.specs.Prelude.{◌≡◌, ℕ, ◌+◌, ◌-◌, ◌<◌, ◌≤◌, Bool, true, false, not, ◌||◌, ◌==◌, List, [], ◌∷◌, ◌++◌, length, take, drop, All, Option, Some, None, IfSome, Err, encode_utf8_all, refl}
+use Rattle.std.specs.Prelude.{◌≡◌, ℕ, ◌+◌, ◌<◌, ◌≤◌, Bool, true, false, not, List, [], ◌∷◌, ◌++◌, length, take, drop, All, Option, Some, None, IfSome, Err, encode_utf8_all, refl}
 use Rattle.std.specs.Char.{is_digit}
 use Rattle.std.proofs.Common.{sym, ◌∙◌, ap, subst, arith}
 use Rattle.std.proofs.lemmas.List.{append_assoc, append-nil, drop-drop, drop_all, take_at, length-append, length-drop}
@@ -8,12 +8,11 @@ use Rattle.std.proofs.lemmas.Str.{encodes_same}
 use Rattle.host_lexer.specs.declared.token.Token.{Token}
 use Rattle.host_lexer.specs.declared.token.TokenKind.{TokenKind}
 use Rattle.host_lexer.specs.declared.token.LexError.{LexError}
-use Rattle.host_lexer.specs.declared.token.LexError.TheVariants as errors
 use Rattle.host_lexer.specs.declared.lexeme.Failure.{Failure}
 use Rattle.host_lexer.specs.declared.lexeme.Failure.TheVariants as failures
 use Rattle.host_lexer.specs.Characters.{is_separator, HasFirst}
 use Rattle.host_lexer.specs.Steps.{Begins, Refuses, IsRefusal}
-use Rattle.host_lexer.specs.Tokens.{Element, space, line_end, line_comment, block_comment, name, word, number, big_int, text, mark, IsIdentifier, chars_of, spelled, IsElement, EndsBefore, HasNoSeparator, Heads, NoElement, AreElements, End, at_end, no_token, separator, no_number, EndsAt, size_of, kind_of, has_line_end, token_at, after_next, tokens_from, Reading, tokens, bad_token, number_outside, reading_of, IsRead, told}
+use Rattle.host_lexer.specs.Tokens.{Element, space, line_end, line_comment, block_comment, name, word, number, big_int, text, mark, IsIdentifier, chars_of, spelled, IsElement, EndsBefore, HasNoSeparator, Heads, AreElements, End, at_end, no_token, separator, no_number, EndsAt, size_of, kind_of, has_line_end, token_at, after_next, tokens_from, Reading, tokens, bad_token, number_outside, reading_of, IsRead, told}
 use Rattle.host_lexer.specs.Spellings.{word_chars, mark_chars}
 use Rattle.host_lexer.proofs.Classes.{numeral_begins}
 use Rattle.host_lexer.proofs.Named.{size_append, size_front}
@@ -59,9 +58,9 @@ tokens_snoc at after (d ∷ es) e =
     let z : at + size_of (chars_of d) + size_of (spelled es) ≡ at + size_of (chars_of d ++ spelled es) = omega (arith, size_append (chars_of d) (spelled es)) in
     ap (λ y. front ++ y) (tokens_snoc (at + size_of (chars_of d)) (after_next after (has_line_end d) (kind_of d)) es e)
     ∙ sym (append_assoc front (tokens_from (at + size_of (chars_of d)) (after_next after (has_line_end d) (kind_of d)) es)
-        (token_at (at + size_of (chars_of d) + size_of (spelled es)) (size_of (chars_of e)) (after_all (after_next after (has_line_end d) (kind_of d)) es) (kind_of e)))
+    (token_at (at + size_of (chars_of d) + size_of (spelled es)) (size_of (chars_of e)) (after_all (after_next after (has_line_end d) (kind_of d)) es) (kind_of e)))
     ∙ ap (λ n. (front ++ tokens_from (at + size_of (chars_of d)) (after_next after (has_line_end d) (kind_of d)) es)
-        ++ token_at n (size_of (chars_of e)) (after_all (after_next after (has_line_end d) (kind_of d)) es) (kind_of e)) z
+    ++ token_at n (size_of (chars_of e)) (after_all (after_next after (has_line_end d) (kind_of d)) es) (kind_of e)) z
 
 taken_is : (xs w rest : List ℕ) (n : ℕ) → w ++ rest ≡ xs → n ≡ length w → take n xs ≡ w
 taken_is xs w rest n e l = ap (λ y. take n y) (sym e) ∙ take_at w rest n (sym l)
@@ -92,7 +91,9 @@ step chars at place after read len to kind line then now b t f g r =
 -- the end of the text
 pub finished : (chars : List ℕ) (at place : ℕ) (after : Bool) (read : List Token) → length chars ≤ at → Reached chars at place after read → IsRead (encode_utf8_all chars) (tokens read)
 finished chars at place after read l r = record {
-  elements = r.elements; left = drop at chars; ending = at_end;
+  elements = r.elements;
+  left = drop at chars;
+  ending = at_end;
   spell = ap encode_utf8_all r.spell;
   are_elements = r.are_elements;
   ends = drop_all at chars l;
@@ -103,15 +104,30 @@ finished chars at place after read l r = record {
 pub refused : (chars : List ℕ) (at place : ℕ) (after : Bool) (read : List Token) (failure : Failure) (e : LexError) → Refuses failure (drop at chars) → IsRefusal (drop at chars) place failure e
     → Reached chars at place after read → IfSome (told (Err e)) (IsRead (encode_utf8_all chars))
 refused chars at place after read failures.NoToken e h i r = rw i (record {
-  elements = r.elements; left = drop at chars; ending = no_token; spell = ap encode_utf8_all r.spell; are_elements = r.are_elements; ends = h;
+  elements = r.elements;
+  left = drop at chars;
+  ending = no_token;
+  spell = ap encode_utf8_all r.spell;
+  are_elements = r.are_elements;
+  ends = h;
   tells = ap (λ n. bad_token n) (sym r.place_is);
 })
 refused chars at place after read failures.NoNumber e h i r = rw i (record {
-  elements = r.elements; left = drop at chars; ending = no_number; spell = ap encode_utf8_all r.spell; are_elements = r.are_elements; ends = h;
+  elements = r.elements;
+  left = drop at chars;
+  ending = no_number;
+  spell = ap encode_utf8_all r.spell;
+  are_elements = r.are_elements;
+  ends = h;
   tells = ap (λ n. number_outside n) (sym r.place_is);
 })
 refused chars at place after read (failures.Separator n) e (before, h, l) i r = rw i (record {
-  elements = r.elements; left = drop at chars; ending = separator before; spell = ap encode_utf8_all r.spell; are_elements = r.are_elements; ends = h;
+  elements = r.elements;
+  left = drop at chars;
+  ending = separator before;
+  spell = ap encode_utf8_all r.spell;
+  are_elements = r.are_elements;
+  ends = h;
   tells = ap (λ n. bad_token n) (size_append (spelled r.elements) (47 ∷ 42 ∷ before)
       ∙ ap (λ m. m + size_of (47 ∷ 42 ∷ before)) (sym r.place_is) ∙ ap (λ y. place + size_of y) (sym w));
 })
@@ -120,6 +136,7 @@ refused chars at place after read (failures.Separator n) e (before, h, l) i r = 
         → take (n + 2) (drop at chars) ≡ 47 ∷ 42 ∷ before
     cut (c, after, rest, g, q, u) = taken_is (drop at chars) (47 ∷ 42 ∷ before) ((c ∷ after) ++ 42 ∷ 47 ∷ rest) (n + 2)
         (ap (λ y. 47 ∷ 42 ∷ y) (sym (append_assoc before (c ∷ after) (42 ∷ 47 ∷ rest)) ∙ sym (append_assoc (before ++ c ∷ after) (42 ∷ 47 ∷ []) rest)) ∙ g.spell) (omega (arith, l))
+
     w : take (n + 2) (drop at chars) ≡ 47 ∷ 42 ∷ before
     w = cut h
 refused chars at place after read failures.NoMemory e h i r = rw i tt

@@ -1,21 +1,21 @@
 -- At most one element begins some characters.
-use Rattle.std.specs.Prelude.{◌≡◌, ℕ, ◌+◌, ◌<◌, ◌≤◌, Bool, true, false, cond, not, ◌&&◌, ◌||◌, ◌==◌, List, [], ◌∷◌, ◌++◌, ◌⊎◌, length, drop, All, Option, Some, None, refl}
+use Rattle.std.specs.Prelude.{◌≡◌, ℕ, ◌<◌, Bool, true, false, ◌||◌, ◌==◌, List, [], ◌∷◌, ◌++◌, All, refl}
 use Rattle.std.specs.Char.{is_digit, is_ascii_alphanumeric}
-use Rattle.std.proofs.Common.{sym, ◌∙◌, ap, subst, arith, get_or, inl, inr}
+use Rattle.std.proofs.Common.{sym, ◌∙◌, ap, subst, arith}
 use Rattle.std.proofs.lemmas.List.{append_assoc, append_cancel_left, append_cancel_right}
 use Rattle.std.proofs.lemmas.List.Elements.{All-nil, All-cons, All-head, All-tail, All-weaker}
 use Rattle.std.proofs.lemmas.Bool.Decides.{nat_tests}
 use Rattle.unicode_ident.specs.Ident.{is_xid_start, is_xid_continue}
 use Rattle.unicode_ident.proofs.IdentLemmas.{is_xid_continue-ascii, is_xid_start-is_xid_continue}
 use Rattle.host_lexer.specs.declared.token.Mark.{Mark}
-use Rattle.host_lexer.specs.Characters.{is_name_start, is_name_part, is_number_part, is_comment_part, is_quote, StopsAt, HasNoEnd}
+use Rattle.host_lexer.specs.Characters.{is_name_start, is_name_part, is_number_part, is_comment_part, StopsAt, HasNoEnd}
 use Rattle.host_lexer.specs.Numerals.{Numeral, decimal, hexadecimal, numeral_chars, AreDigits, IsNumeral, IsDecimal}
-use Rattle.host_lexer.specs.Spellings.{word_chars, mark_chars}
-use Rattle.host_lexer.specs.Steps.{Class, named, numbered, blank, line, quoted, line_commented, block_commented, marked}
+use Rattle.host_lexer.specs.Spellings.{word_chars}
+use Rattle.host_lexer.specs.Steps.{quoted, block_commented, marked}
 use Rattle.host_lexer.specs.Texts.{Piece, pieces_chars, ArePieces}
-use Rattle.host_lexer.specs.Tokens.{Element, space, line_end, line_comment, block_comment, name, word, number, big_int, text, mark, chars_of, IsElement, EndsBefore, IsIdentifier, IsName, Heads, NoElement}
+use Rattle.host_lexer.specs.Tokens.{Element, space, line_end, line_comment, block_comment, name, word, number, big_int, text, mark, chars_of, IsElement, EndsBefore, IsIdentifier, Heads}
 use Rattle.host_lexer.proofs.Classes.{class_is, class_at, classified, is_it}
-use Rattle.host_lexer.proofs.Pieces.{is_hex, same_pieces, pieces_go}
+use Rattle.host_lexer.proofs.Pieces.{same_pieces, pieces_go}
 use Rattle.host_lexer.proofs.Runs.{run_of, run_is}
 use Rattle.host_lexer.proofs.Spelt.{same_word, word_identifier, mark_at, mark_at_is, longest_stops}
 
@@ -42,6 +42,7 @@ alnum c lt h = on (c == 46) (c == 36) refl refl
   where
     x : is_xid_continue c ≡ true
     x = is_xid_continue-ascii c lt ∙ rw h refl
+
     on : (a b : Bool) → (c == 46) ≡ a → (c == 36) ≡ b → is_number_part c ≡ true
     on true b p q = rw p refl
     on false true p q = rw (p, q) refl
@@ -138,7 +139,7 @@ quotes q r ps ss rest left e h g =
     let k : q ≡ r = cc in
     let tails : (pieces_chars ps ++ q ∷ []) ++ rest ≡ (pieces_chars ss ++ r ∷ []) ++ left = cc in
     let l : pieces_chars ps ++ q ∷ rest ≡ pieces_chars ss ++ q ∷ left =
-        sym (append_assoc (pieces_chars ps) (q ∷ []) rest) ∙ tails ∙ append_assoc (pieces_chars ss) (r ∷ []) left ∙ ap (λ x. pieces_chars ss ++ x ∷ left) (sym k) in
+    sym (append_assoc (pieces_chars ps) (q ∷ []) rest) ∙ tails ∙ append_assoc (pieces_chars ss) (r ∷ []) left ∙ ap (λ x. pieces_chars ss ++ x ∷ left) (sym k) in
     let g' : ArePieces q ss (q ∷ []) = subst (λ x. ArePieces x ss (x ∷ [])) (sym k) g.1 in
     let m : ps ≡ ss = same_pieces q ps ss rest left h.0 l (pieces_go q ps [] rest h.1) (pieces_go q ss [] left g') in
     cc

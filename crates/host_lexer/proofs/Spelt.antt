@@ -1,5 +1,5 @@
 -- Words and marks by their spellings.
-use Rattle.std.specs.Prelude.{◌≡◌, ℕ, ◌+◌, ◌<◌, ◌≤◌, Bool, true, false, cond, ◌&&◌, ◌||◌, ◌==◌, List, [], ◌∷◌, ◌++◌, length, codes, All, Option, Some, None, nat_lt, encode_utf8_all, refl}
+use Rattle.std.specs.Prelude.{◌≡◌, ℕ, ◌<◌, ◌≤◌, Bool, true, false, cond, ◌&&◌, ◌==◌, List, [], ◌∷◌, ◌++◌, length, codes, All, Option, Some, None, nat_lt, encode_utf8_all, refl}
 use Rattle.std.specs.List.{list_all}
 use Rattle.std.specs.Str.{bytes_eq}
 use Rattle.std.proofs.Common.{sym, ◌∙◌, ap, subst, arith, get_or, lit≤}
@@ -11,7 +11,7 @@ use Rattle.host_lexer.specs.declared.token.Word.{Word}
 use Rattle.host_lexer.specs.declared.token.Word.TheVariants as words
 use Rattle.host_lexer.specs.declared.token.Mark.{Mark}
 use Rattle.host_lexer.specs.declared.token.Mark.TheVariants as marks
-use Rattle.host_lexer.specs.Characters.{is_name_start, is_name_part, StopsAt}
+use Rattle.host_lexer.specs.Characters.{is_name_start, is_name_part}
 use Rattle.host_lexer.specs.Spellings.{word_chars, mark_chars}
 use Rattle.host_lexer.specs.Steps.{mark_front, IsSpelt}
 use Rattle.host_lexer.specs.Tokens.{IsIdentifier, IsLongest}

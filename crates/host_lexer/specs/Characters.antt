@@ -1,6 +1,5 @@
 -- Classes of characters by their code, and what stands where a row of characters begins.
 use Rattle.std.specs.Prelude.{◌≡◌, ℕ, Bool, true, false, not, ◌||◌, ◌==◌, List, [], ◌∷◌}
-use Rattle.std.specs.Char.{is_ascii_digit}
 use Rattle.unicode_ident.specs.Ident.{is_xid_start, is_xid_continue}
 
 -- tab, vertical tab, form feed, space, no-break space and byte order mark (ECMA-262, section 12.2)

@@ -1,5 +1,5 @@
 -- Private: what the reader's functions say of some characters.
-use Rattle.std.specs.Prelude.{◌∷◌, ◌++◌, ◌+◌, ◌≡◌, ℕ, ◌≤◌, Bool, true, false, cond, ◌&&◌, ◌==◌, List, length, take, drop, Option, Some, None}
+use Rattle.std.specs.Prelude.{◌∷◌, ◌++◌, ◌+◌, ◌≡◌, ℕ, ◌≤◌, Bool, false, cond, ◌&&◌, ◌==◌, List, length, take, drop, Option, Some, None}
 use Rattle.std.specs.Char.{IsScalar, is_digit}
 use Rattle.host_lexer.specs.declared.token.LexError.{LexError}
 use Rattle.host_lexer.specs.declared.token.LexError.TheVariants as errors
@@ -11,7 +11,7 @@ use Rattle.host_lexer.specs.declared.lexeme.Failure.TheVariants as failures
 use Rattle.host_lexer.specs.Characters.{is_space, is_line_end, is_name_start, is_quote, HasNoEnd}
 use Rattle.host_lexer.specs.Numerals.{Numeral, numeral_chars, value_in, value_of, AreDigits, IsNumeral}
 use Rattle.host_lexer.specs.Texts.{Piece, piece_chars, IsPiece, code_of}
-use Rattle.host_lexer.specs.Tokens.{Element, number, big_int, chars_of, IsElement, Heads, NoElement, HasNoSeparator, EndsAt, no_token, no_number, separator, kind_of, has_line_end, size_of}
+use Rattle.host_lexer.specs.Tokens.{Element, number, big_int, chars_of, IsElement, Heads, HasNoSeparator, EndsAt, no_token, no_number, separator, kind_of, has_line_end, size_of}
 
 -- some characters begin with an element of this many characters, which makes a token of a kind, or none, and is a line end or not
 pub record Begins (chars : List ℕ) (len : ℕ) (kind : Option TokenKind) (line : Bool) : Type 0 where

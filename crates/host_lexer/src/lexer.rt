@@ -74,11 +74,7 @@ fn read_mark(chars: &[char]) -> Result<Lexeme, Failure>
     ensures found { IfOk result (λ l. Begins chars.now l.len l.kind l.line_end) }
     ensures refused { IfErr result (λ e. Refuses e chars.now) }
 {
-    let Some(mark) = mark_of(
-        chars[0],
-        char_or_null(chars, 1),
-        char_or_null(chars, 2),
-    ) else {
+    let Some(mark) = mark_of(chars[0], char_or_null(chars, 1), char_or_null(chars, 2)) else {
         return Err(Failure::NoToken);
     };
     Ok(Lexeme::token(mark_len(mark), TokenKind::Mark(mark)))
@@ -184,11 +180,13 @@ fn tokens_of(alloc: Global, chars: &[char]) -> Result<Vec<Token>, LexError>
         let rest = &chars[at..];
         match read_element(alloc, rest) {
             Err(failure) => return Err(refusal(failure, rest, place)),
-            Ok(Lexeme {
-                len,
-                kind,
-                line_end,
-            }) => {
+            Ok(
+                Lexeme {
+                    len,
+                    kind,
+                    line_end,
+                },
+            ) => {
                 let to = place + byte_len(&rest[..len]);
                 after_line = add(&mut found, kind, place, to, after_line, line_end)?;
                 at += len;

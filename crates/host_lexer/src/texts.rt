@@ -124,10 +124,7 @@ fn escape(chars: &[char]) -> Option<Piece>
         'u' if next == '{' => braced(chars),
         'u' => fixed(chars, 4),
         '0' if next.is_ascii_digit() => None,
-        '0' => Some(Piece {
-            len: 2,
-            code: '\0',
-        }),
+        '0' => Some(Piece { len: 2, code: '\0' }),
         _ => short(chars),
     }
 }

@@ -1,4 +1,4 @@
-use Rattle.std.proofs.Common.{◌≡◌, ◌∙◌, ap, arith, ◌+◌}
+use Rattle.std.proofs.Common.{arith, ◌+◌}
 use Rattle.host_lexer.proofs.Named.{size_more, size_front}
 use Rattle.host_lexer.proofs.lexer.byte_len.Goals as goal
 

@@ -1,4 +1,4 @@
-use Rattle.std.proofs.Common.{◌≡◌, ◌∙◌, sym}
+use Rattle.std.proofs.Common.{◌∙◌, sym}
 use Rattle.host_lexer.proofs.Marked.{mark_reads_at, no_mark_at}
 use Rattle.host_lexer.proofs.lexer.read_mark.Goals as goal
 

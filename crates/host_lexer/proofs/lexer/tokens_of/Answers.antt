@@ -1,4 +1,4 @@
-use Rattle.std.proofs.Common.{◌≡◌, ◌∙◌, ◌+◌, ◌-◌, ◌<◌, ◌^◌, ap, subst, arith, take, drop, length}
+use Rattle.std.proofs.Common.{◌≡◌, ◌∙◌, ◌+◌, ap, subst, arith, take, drop}
 use Rattle.std.proofs.lemmas.List.{take_rest}
 use Rattle.host_lexer.specs.Steps.{Begins, Refuses, IsRefusal}
 use Rattle.host_lexer.specs.Tokens.{size_of}
@@ -46,7 +46,7 @@ loop-at-preserved c =
     let b = subst (λ y. Begins y c.in-Ok.field-0.len c.in-Ok.field-0.kind c.in-Ok.field-0.line_end) (take_rest c.args.chars.now c.loop-at.at) c.in-Ok.ensures.found in
     let f = element_fits c.args.chars.now c.loop-at.at c.in-Ok.field-0.len c.in-Ok.field-0.kind c.in-Ok.field-0.line_end c.loop-at-test.true b in
     let t : c.loop-at.place + c.byte_len.result ≡ c.loop-at.place + size_of (take c.in-Ok.field-0.len (drop c.loop-at.at c.args.chars.now)) =
-        ap (λ n. c.loop-at.place + n) (c.byte_len.ensures ∙ ap (λ y. size_of (take c.in-Ok.field-0.len y)) (take_rest c.args.chars.now c.loop-at.at)) in
+    ap (λ n. c.loop-at.place + n) (c.byte_len.ensures ∙ ap (λ y. size_of (take c.in-Ok.field-0.len y)) (take_rest c.args.chars.now c.loop-at.at)) in
     record {
       within = f.1;
       reached = step c.args.chars.now c.loop-at.at c.loop-at.place c.loop-at.after_line c.loop-at.found.items c.in-Ok.field-0.len (c.loop-at.place + c.byte_len.result)

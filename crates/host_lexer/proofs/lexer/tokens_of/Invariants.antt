@@ -1,4 +1,4 @@
-use Rattle.std.proofs.Common.{◌≡◌, ◌≤◌, length, ◌-◌}
+use Rattle.std.proofs.Common.{◌≤◌, length, ◌-◌}
 use Rattle.host_lexer.proofs.Reached.{Reached}
 use Rattle.host_lexer.proofs.lexer.tokens_of.Given as goal
 

@@ -1,6 +1,5 @@
-use Rattle.std.proofs.Common.{◌≡◌, arith}
+use Rattle.std.proofs.Common.{arith}
 use Rattle.host_lexer.proofs.Numbered.{too_great, digits_more, value_step}
-use Rattle.host_lexer.proofs.Quoted.{no_text}
 use Rattle.host_lexer.proofs.numbers.digits_value.Goals as goal
 
 pub returns-in_err-value-clause-value : goal.returns-in_err-value-clause-value

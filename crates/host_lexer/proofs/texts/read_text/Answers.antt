@@ -1,6 +1,6 @@
-use Rattle.std.proofs.Common.{rules, ◌<◌, ◌^◌, ◌≡◌, ◌∙◌, ◌++◌, sym, ap, subst, arith, encode_utf8, ◌+◌, length, get_or}
+use Rattle.std.proofs.Common.{rules, ◌<◌, ◌^◌, ◌∙◌, sym, arith, length}
 use Rattle.host_lexer.proofs.Numbered.{at_default}
-use Rattle.host_lexer.proofs.Quoted.{Quoting, quote_closes, bad_piece_at, never_closes, piece_step, piece_fits, has_piece_at, not_there, first_there, filled_first}
+use Rattle.host_lexer.proofs.Quoted.{quote_closes, bad_piece_at, never_closes, piece_step, piece_fits, has_piece_at, not_there, first_there, filled_first}
 use Rattle.host_lexer.proofs.texts.read_text.Goals as goal
 
 pub returns-then-chars-at-clause-found : goal.returns-then-chars-at-clause-found
@@ -18,21 +18,21 @@ returns-in_default-clause-refused c =
 pub overflow_add-at-in-loop-at : goal.overflow_add-at-in-loop-at
 overflow_add-at-in-loop-at c =
     let h = has_piece_at c.index-chars-0.result c.args.chars.now c.loop-at.at c.index-chars-at.result c.in-Some.field-0.len c.in-Some.field-0.code c.loop-at-test.true
-        c.index-chars-at.is c.if-chars-at.false c.in-Some.ensures in
+    c.index-chars-at.is c.if-chars-at.false c.in-Some.ensures in
     let f = piece_fits c.index-chars-0.result c.args.chars.now c.loop-at.at c.in-Some.field-0.len c.in-Some.field-0.code c.loop-at-test.true h in
     let small : length c.args.chars.now < 2 ^ 64 = search rules in omega (arith, f, small)
 
 pub loop-at-smaller : goal.loop-at-smaller
 loop-at-smaller c =
     let h = has_piece_at c.index-chars-0.result c.args.chars.now c.loop-at.at c.index-chars-at.result c.in-Some.field-0.len c.in-Some.field-0.code c.loop-at-test.true
-        c.index-chars-at.is c.if-chars-at.false c.in-Some.ensures in
+    c.index-chars-at.is c.if-chars-at.false c.in-Some.ensures in
     let f = piece_fits c.index-chars-0.result c.args.chars.now c.loop-at.at c.in-Some.field-0.len c.in-Some.field-0.code c.loop-at-test.true h in
     omega (arith, f, c.loop-at-test.true)
 
 pub loop-at-preserved : goal.loop-at-preserved
 loop-at-preserved c =
     let h = has_piece_at c.index-chars-0.result c.args.chars.now c.loop-at.at c.index-chars-at.result c.in-Some.field-0.len c.in-Some.field-0.code c.loop-at-test.true
-        c.index-chars-at.is c.if-chars-at.false c.in-Some.ensures in
+    c.index-chars-at.is c.if-chars-at.false c.in-Some.ensures in
     record {
       within = (piece_fits c.index-chars-0.result c.args.chars.now c.loop-at.at c.in-Some.field-0.len c.in-Some.field-0.code c.loop-at-test.true h).1;
       quoting = rw c.in_ok-push.ensures.bytes (piece_step c.index-chars-0.result c.args.chars.now c.loop-at.at c.in-Some.field-0.len c.in-Some.field-0.code _ c.loop-at-test.true

@@ -1,4 +1,4 @@
-use Rattle.std.proofs.Common.{◌≡◌, ◌<◌, ◌≤◌, length, ◌-◌, string_bytes}
+use Rattle.std.proofs.Common.{◌≤◌, length, ◌-◌, string_bytes}
 use Rattle.host_lexer.proofs.Quoted.{Quoting}
 use Rattle.host_lexer.proofs.texts.read_text.Given as goal
 
