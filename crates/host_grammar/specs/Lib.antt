@@ -1,0 +1,5 @@
+pub mod Conditions
+pub mod Derivations
+pub mod Printing
+pub mod Refusals
+pub mod Scopes
