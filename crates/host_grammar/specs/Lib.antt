@@ -1,5 +1,6 @@
 pub mod Conditions
 pub mod Derivations
+pub mod Machine
 pub mod Printing
 pub mod Refusals
 pub mod Scopes
