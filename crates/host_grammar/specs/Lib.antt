@@ -4,3 +4,4 @@ pub mod Machine
 pub mod Printing
 pub mod Refusals
 pub mod Scopes
+pub mod Spelling

@@ -200,9 +200,9 @@ operator_at _ _ = None
 abbrev pub pushed : Mark → Spot → Unary → {n : ℕ} → Lefts n → Option (Lefts n)
 pushed m p u no_left = None
 pushed m p u (also {n} l ls) = elim (operator_at n m) [
-  Some o ↦ Some (also (before (with_left l (close ls u)) o p) (fresh_lefts n))
-| None ↦ elim (pushed m p u ls) [ None ↦ None | Some q ↦ Some (also l q) ]
-]
+    Some o ↦ Some (also (before (with_left l (close ls u)) o p) (fresh_lefts n))
+    | None ↦ elim (pushed m p u ls) [ None ↦ None | Some q ↦ Some (also l q) ]
+    ]
 
 abbrev pub operated : Level → Postfix → OfExpr → Spot → Mark → Option State
 operated (level ls ps) u s p m = elim (pushed m p (wrap ps (postfix u)) ls) [ None ↦ None | Some q ↦ Some (want (level q []) s) ]
