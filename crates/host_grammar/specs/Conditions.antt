@@ -4,7 +4,7 @@ use Rattle.host_lexer.specs.declared.token.Word.TheVariants as words
 use Rattle.host_lexer.specs.declared.token.Mark.TheVariants as marks
 use Rattle.host_lexer.specs.declared.token.TokenKind.{TokenKind}
 use Rattle.host_lexer.specs.declared.token.TokenKind.TheVariants as kinds
-use Rattle.host_grammar.specs.Derivations.{Spot, Named, Chain, operand, lift, more, Unary, postfix, prefixed, Postfix, primary, member, index, call, Primary, literal, name, paren, array, object, new, Target, to_name, to_member, to_index, Stmt, empty, block, expression, assign, if_then, if_else, while_do, break_off, continue_on, return_none, return_value, throw_value, try_catch, try_catch_name, Block, braces, Items, no_item, and_item, Item, lets, consts, statement, Function, function, Script, no_part, and_function, and_part}
+use Rattle.host_grammar.specs.Derivations.{Spot, Chain, operand, lift, more, Unary, postfix, prefixed, Postfix, primary, member, index, call, Primary, literal, name, paren, array, object, new, Target, to_name, to_member, to_index, Stmt, empty, block, expression, assign, if_then, if_else, while_do, break_off, continue_on, return_none, return_value, throw_value, try_catch, try_catch_name, Block, braces, Items, no_item, and_item, Item, lets, consts, statement, Function, function, Script, no_part, and_function, and_part}
 use Rattle.host_grammar.specs.Printing.{Sign, kind_of, prefix_kind, script_signs}
 
 abbrev pub sign : TokenKind → Spot → Sign

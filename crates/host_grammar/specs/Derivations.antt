@@ -1,6 +1,6 @@
 -- The grammar of the script language (ECMA-262, sections 13 to 16, cut to the profile). A derivation has a constructor for
 -- each production and tells where each of its tokens stands. Lists and chains are nested to the left.
-use Rattle.std.specs.Prelude.{ℕ, zero, suc, Bool, List}
+use Rattle.std.specs.Prelude.{ℕ, suc, Bool, List}
 use Rattle.host_lexer.specs.declared.token.Word.{Word}
 
 -- where a token stands: its first byte, and whether a line end stands between it and the token before it

@@ -1,12 +1,11 @@
 -- Private: the reader of scripts as a machine over one token, with what is open around it.
-use Rattle.std.specs.Prelude.{◌≡◌, ℕ, zero, suc, Bool, true, false, cond, List, [], ◌∷◌, Option, Some, None}
-use Rattle.host_lexer.specs.declared.token.Word.{Word}
+use Rattle.std.specs.Prelude.{ℕ, zero, suc, Bool, true, false, cond, List, [], ◌∷◌, Option, Some, None}
 use Rattle.host_lexer.specs.declared.token.Word.TheVariants as words
 use Rattle.host_lexer.specs.declared.token.Mark.{Mark}
 use Rattle.host_lexer.specs.declared.token.Mark.TheVariants as marks
 use Rattle.host_lexer.specs.declared.token.TokenKind.{TokenKind}
 use Rattle.host_lexer.specs.declared.token.TokenKind.TheVariants as kinds
-use Rattle.host_grammar.specs.Derivations.{Spot, Named, Any, any_name, any_word, Key, any_key, text_key, Literal, number, big_int, text, true_word, false_word, null_word, undefined_word, Operator, times, divided, remainder, plus, minus, less, greater, less_equals, greater_equals, equals, not_equals, and, or, Prefix, negative, not_, type_of, Members, no_member, and_member, Chain, operand, lift, more, Unary, postfix, prefixed, Postfix, primary, member, index, call, Primary, literal, name, paren, array, object, new, Listed, nothing, listed, listed_on, Exprs, one, and_one, Props, no_props, props, props_on, PropList, one_prop, and_prop, Prop, keyed, short, Expr, Target, to_name, to_member, to_index, LetDecl, unset, set_to, LetDecls, one_let, and_let, ConstDecl, const_to, ConstDecls, one_const, and_const, Stmt, empty, block, expression, assign, if_then, if_else, while_do, break_off, continue_on, return_none, return_value, throw_value, try_catch, try_catch_name, Block, braces, Items, no_item, and_item, Item, lets, consts, statement, Names, one_name, and_name, Params, no_param, params, params_on, Function, function, Script, no_part, and_function, and_part}
+use Rattle.host_grammar.specs.Derivations.{Spot, Named, Any, any_name, any_word, Key, any_key, text_key, number, big_int, text, true_word, false_word, null_word, undefined_word, Operator, times, divided, remainder, plus, minus, less, greater, less_equals, greater_equals, equals, not_equals, and, or, Prefix, negative, not_, type_of, Members, no_member, and_member, Chain, operand, lift, more, Unary, postfix, prefixed, Postfix, primary, member, index, call, literal, name, paren, array, object, new, Listed, nothing, listed, listed_on, Exprs, one, and_one, Props, no_props, props, props_on, PropList, one_prop, and_prop, Prop, keyed, short, Expr, Target, to_name, to_member, to_index, LetDecl, unset, set_to, LetDecls, one_let, and_let, ConstDecl, const_to, ConstDecls, one_const, and_const, Stmt, empty, block, expression, assign, if_then, if_else, while_do, break_off, continue_on, return_none, return_value, throw_value, try_catch, try_catch_name, Block, braces, Items, no_item, and_item, Item, lets, consts, statement, Names, one_name, and_name, Params, no_param, params, params_on, function, Script, no_part, and_function, and_part}
 use Rattle.host_grammar.specs.Printing.{Sign}
 
 -- what stands before an operand at each level of operators, the outermost first
@@ -200,9 +199,9 @@ operator_at _ _ = None
 abbrev pub pushed : Mark → Spot → Unary → {n : ℕ} → Lefts n → Option (Lefts n)
 pushed m p u no_left = None
 pushed m p u (also {n} l ls) = elim (operator_at n m) [
-    Some o ↦ Some (also (before (with_left l (close ls u)) o p) (fresh_lefts n))
-    | None ↦ elim (pushed m p u ls) [ None ↦ None | Some q ↦ Some (also l q) ]
-    ]
+  | Some o ↦ Some (also (before (with_left l (close ls u)) o p) (fresh_lefts n))
+  | None ↦ elim (pushed m p u ls) [ None ↦ None | Some q ↦ Some (also l q) ]
+]
 
 abbrev pub operated : Level → Postfix → OfExpr → Spot → Mark → Option State
 operated (level ls ps) u s p m = elim (pushed m p (wrap ps (postfix u)) ls) [ None ↦ None | Some q ↦ Some (want (level q []) s) ]

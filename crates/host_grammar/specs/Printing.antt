@@ -1,7 +1,7 @@
 -- The tokens that a derivation is spelt by, each with the number of constructs that are open with it where it opens one. A
 -- construct is open from `(`, `[` or `{` to its partner, from a prefix operator or `new` to its operand's end, and from `if`
 -- or `while` to its statement's end.
-use Rattle.std.specs.Prelude.{ℕ, suc, Bool, List, [], ◌∷◌, map}
+use Rattle.std.specs.Prelude.{ℕ, suc, List, [], ◌∷◌, map}
 use Rattle.host_lexer.specs.declared.token.Word.{Word}
 use Rattle.host_lexer.specs.declared.token.Word.TheVariants as words
 use Rattle.host_lexer.specs.declared.token.Mark.{Mark}
@@ -9,7 +9,7 @@ use Rattle.host_lexer.specs.declared.token.Mark.TheVariants as marks
 use Rattle.host_lexer.specs.declared.token.Token.{Token}
 use Rattle.host_lexer.specs.declared.token.TokenKind.{TokenKind}
 use Rattle.host_lexer.specs.declared.token.TokenKind.TheVariants as kinds
-use Rattle.host_grammar.specs.Derivations.{Spot, Named, Any, any_name, any_word, Key, any_key, text_key, Literal, number, big_int, text, true_word, false_word, null_word, undefined_word, Operator, times, divided, remainder, plus, minus, less, greater, less_equals, greater_equals, equals, not_equals, and, or, Prefix, negative, not_, type_of, Members, no_member, and_member, Chain, operand, lift, more, Unary, postfix, prefixed, Postfix, primary, member, index, call, Primary, literal, name, paren, array, object, new, Listed, nothing, listed, listed_on, Exprs, one, and_one, Props, no_props, props, props_on, PropList, one_prop, and_prop, Prop, keyed, short, Expr, Target, to_name, to_member, to_index, LetDecl, unset, set_to, LetDecls, one_let, and_let, ConstDecl, const_to, ConstDecls, one_const, and_const, Stmt, empty, block, expression, assign, if_then, if_else, while_do, break_off, continue_on, return_none, return_value, throw_value, try_catch, try_catch_name, Block, braces, Items, no_item, and_item, Item, lets, consts, statement, Names, one_name, and_name, Params, no_param, params, params_on, Function, function, Script, no_part, and_function, and_part}
+use Rattle.host_grammar.specs.Derivations.{Spot, Named, Any, any_name, any_word, Key, any_key, text_key, Literal, number, big_int, text, true_word, false_word, null_word, undefined_word, Operator, times, divided, remainder, plus, minus, less, greater, less_equals, greater_equals, equals, not_equals, and, or, Prefix, negative, not_, type_of, Members, no_member, and_member, Chain, operand, lift, more, Unary, postfix, prefixed, Postfix, primary, member, index, call, Primary, literal, name, paren, array, object, new, Listed, nothing, listed, listed_on, Exprs, one, and_one, Props, no_props, props, props_on, PropList, one_prop, and_prop, Prop, keyed, short, Target, to_name, to_member, to_index, LetDecl, unset, set_to, LetDecls, one_let, and_let, ConstDecl, const_to, ConstDecls, one_const, and_const, Stmt, empty, block, expression, assign, if_then, if_else, while_do, break_off, continue_on, return_none, return_value, throw_value, try_catch, try_catch_name, Block, braces, Items, no_item, and_item, Item, lets, consts, statement, Names, one_name, and_name, Params, no_param, params, params_on, Function, function, Script, no_part, and_function, and_part}
 
 -- a token as the grammar sees it: its kind and where it stands
 pub record Sign : Type 0 where

@@ -1,5 +1,5 @@
 -- What tokens are read as: a tree, or the place at which they are refused.
-use Rattle.std.specs.Prelude.{◌≡◌, ℕ, zero, suc, ◌+◌, ◌<◌, ◌≤◌, List, [], ◌∷◌, ◌++◌, length, take, map, Option, Some, None, slice_get}
+use Rattle.std.specs.Prelude.{◌≡◌, ℕ, zero, suc, ◌+◌, ◌<◌, ◌≤◌, List, [], ◌∷◌, ◌++◌, length, take, map, Some, slice_get}
 use Rattle.host_lexer.specs.declared.token.Token.{Token}
 use Rattle.host_grammar.specs.Derivations.{Named, Script}
 use Rattle.host_grammar.specs.Printing.{Sign, Printed, seen, script_then}

@@ -1,7 +1,7 @@
 -- The scopes of a script and the names that they declare (ECMA-262, section 16.1.1 and 14.2.1, cut to the profile): the script
 -- with its functions, a function's parameters with its body, a catch name with its block, and each other block.
-use Rattle.std.specs.Prelude.{◌≡◌, ℕ, ◌≤◌, List, [], ◌∷◌, ◌++◌, Contains}
-use Rattle.host_grammar.specs.Derivations.{Named, LetDecl, unset, set_to, LetDecls, one_let, and_let, ConstDecl, const_to, ConstDecls, one_const, and_const, Stmt, empty, block, expression, assign, if_then, if_else, while_do, break_off, continue_on, return_none, return_value, throw_value, try_catch, try_catch_name, Block, braces, Items, no_item, and_item, Item, lets, consts, statement, Names, one_name, and_name, Params, no_param, params, params_on, Function, function, Script, no_part, and_function, and_part}
+use Rattle.std.specs.Prelude.{◌≡◌, ◌≤◌, List, [], ◌∷◌, ◌++◌, Contains}
+use Rattle.host_grammar.specs.Derivations.{Named, LetDecl, unset, set_to, LetDecls, one_let, and_let, ConstDecl, const_to, ConstDecls, one_const, and_const, Stmt, block, if_then, if_else, while_do, try_catch, try_catch_name, Block, braces, Items, no_item, and_item, Item, lets, consts, statement, Names, one_name, and_name, Params, no_param, params, params_on, Function, function, Script, no_part, and_function, and_part}
 
 -- the names that declarations declare, in the order of the text
 abbrev pub of_let : LetDecl → List Named

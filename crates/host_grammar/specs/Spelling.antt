@@ -4,7 +4,7 @@ use Rattle.host_lexer.specs.declared.token.Word.TheVariants as words
 use Rattle.host_lexer.specs.declared.token.Mark.TheVariants as marks
 use Rattle.host_lexer.specs.declared.token.TokenKind.TheVariants as kinds
 use Rattle.host_grammar.specs.Derivations.{Exprs, PropList, LetDecls, ConstDecls, Names}
-use Rattle.host_grammar.specs.Printing.{Printed, plain, opening, mark, word, name_of, key_of, operator_mark, prefix_kind, members_then, chain_then, unary_then, postfix_then, exprs_then, prop_list_then, target_then, lets_then, consts_then, stmt_then, block_then, items_then, names_then, params_then, script_then}
+use Rattle.host_grammar.specs.Printing.{Printed, opening, mark, word, name_of, key_of, operator_mark, prefix_kind, members_then, chain_then, postfix_then, exprs_then, prop_list_then, target_then, lets_then, consts_then, stmt_then, block_then, items_then, names_then, params_then, script_then}
 use Rattle.host_grammar.specs.Machine.{Left, nothing_left, before, Lefts, no_left, also, Sigil, sigil, Level, level, Before, none_before, comma_after, OfExpr, in_paren, in_index, in_call, in_array, in_new, in_prop, in_expression, in_assign, in_if, in_while, in_return, in_throw, in_let, in_const, OfStmt, item_of, then_of, else_of, body_of, OfItem, in_script, in_block, OfBlock, block_of, try_of, catch_of, catch_name_of, function_of, State, want, have, dotted, argument, element, given, new_begun, new_named, new_dotted, property, named_key, other_key, items, begun, complete, if_begun, while_begun, break_begun, continue_begun, return_begun, throw_begun, try_begun, try_read, catch_begun, catch_opened, catch_named, catch_closed, let_begun, let_named, const_begun, const_named, function_begun, function_named, parameter, parameter_read, parameters_read}
 
 abbrev pub left_then : {n : ℕ} → ℕ → Left n → List Printed → List Printed

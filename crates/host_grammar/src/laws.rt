@@ -9,18 +9,15 @@ ghost use Rattle.host_grammar.specs.Spelling.{level_then, within, state_then};
 /// The tokens of a script are a prefix of a script's.
 pub fn scripts_begin()
     ensures { (tokens : List Token) (len : ℕ) (s : Script) → IsParsed tokens len (tree s) → Begins (map seen tokens) }
-{
-}
+{}
 
 /// The reader begins with nothing read, and accepts the script of no tokens.
 pub fn nothing_is_read()
     ensures accepts { accept start ≡ Some no_part }
     ensures reads { state_then start [] ≡ [] }
-{
-}
+{}
 
 /// An expression that is read is spelt by what stands before its last operand and by that operand.
 pub fn expressions_close()
     ensures { (d : ℕ) (l : Level) (u : Postfix) (y : List Printed) → chain_then d (expr_of l u) y ≡ level_then d l (postfix_then (within l d) u y) }
-{
-}
+{}
