@@ -81,32 +81,6 @@ refused_file asked contents path t is same =
     let both = long_is (first_long contents (files_of asked)) (λ u. IsRunTranscript asked contents u) path t is same in
     record { is = both.0; only = both.1 }
 
-told_cause : (content : Option (List ℕ)) (P : Type 0) (Q : Type 0) → IsSome content → MatchOption content P (λ bytes. Q) → Q
-told_cause None P Q some h = absurd (cc)
-told_cause (Some b) P Q some h = h
-
-first_of_told : (files all : List AskedFile) (contents : Contents) (before after : ℕ) (path : List ℕ) → ((name : List ℕ) → IsOfSome (λ file. file.path ≡ name) files → IsSome (contents name))
-    → IsOfSome (λ file. (file.path ≡ path) × MatchOption (contents path) (RoseByMore before after file.limit) (λ bytes. first_long contents all ≡ Some path)) files → first_long contents all ≡ Some path
-first_of_told [] all contents before after path told h = absurd h
-first_of_told (file ∷ files) all contents before after path told (inl w) = told_cause (contents path) (RoseByMore before after file.limit) (first_long contents all ≡ Some path) (told path (inl w.0)) w.1
-first_of_told (file ∷ files) all contents before after path told (inr w) = first_of_told files all contents before after path (λ name k. told name (inr k)) w
-
--- where all files are told, the path of a file that was too long is that of the first
-pub first_of : (asked : Asked) (contents : Contents) (before after : ℕ) (path : List ℕ) → ((name : List ℕ) → IsAsked asked name → IsSome (contents name)) → IsLongPath (files_of asked) contents before after path
-    → first_long contents (files_of asked) ≡ Some path
-first_of asked contents before after path told h = first_of_told (files_of asked) (files_of asked) contents before after path told h
-
-cause_of : (files all : List AskedFile) (contents : Contents) (before after : ℕ) (path : List ℕ)
-    → IsOfSome (λ file. (file.path ≡ path) × MatchOption (contents path) (RoseByMore before after file.limit) (λ bytes. first_long contents all ≡ Some path)) files
-    → IsOfSome (λ file. MatchOption (contents file.path) (RoseByMore before after file.limit) (λ bytes. first_long contents all ≡ Some file.path)) files
-cause_of [] all contents before after path h = absurd h
-cause_of (file ∷ files) all contents before after path (inl w) = inl (subst (λ p. MatchOption (contents p) (RoseByMore before after file.limit) (λ bytes. first_long contents all ≡ Some p)) (sym w.0) w.1)
-cause_of (file ∷ files) all contents before after path (inr w) = inr (cause_of files all contents before after path w)
-
--- why a file was too long
-pub long_cause : (asked : Asked) (contents : Contents) (before after : ℕ) (path : List ℕ) → IsLongPath (files_of asked) contents before after path → IsTooLongOf (files_of asked) contents before after
-long_cause asked contents before after path h = cause_of (files_of asked) (files_of asked) contents before after path h
-
 -- a script's bytes end a run as the files that are asked for may
 pub text_ends : (status : Status) → IsTextEnd status → IsScriptEnd status
 text_ends statuses.TooLong h = tt

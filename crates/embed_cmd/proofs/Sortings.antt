@@ -6,8 +6,8 @@ use Rattle.std.specs.Option.{option_map}
 use Rattle.embed_cmd.specs.declared.sorting.Sorted.{Sorted}
 use Rattle.embed_cmd.specs.declared.sorting.Next.{Next}
 use Rattle.embed_cmd.specs.declared.sorting.Next.TheVariants as nexts
-use Rattle.embed_cmd.specs.Words.{sorted_of, texts_of}
-use Rattle.embed_cmd.specs.Sorting.{joined, sorted_after}
+use Rattle.embed_cmd.specs.Words.{texts_of}
+use Rattle.embed_cmd.specs.Sorting.{sorted_of, joined, sorted_after}
 
 abbrev nothing : Sorted
 nothing = record { positional = []; steps = []; modules = [] }

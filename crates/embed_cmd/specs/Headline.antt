@@ -1,12 +1,12 @@
 -- How the program's run answers the transcript of its command line.
-use Rattle.std.specs.Prelude.{◌≡◌, ◌⊎◌, ℕ, Bool, false, List, [], ◌∷◌, ◌++◌, take, Option, Some, None, IsSomeAnd, MatchOption}
+use Rattle.std.specs.Prelude.{◌≡◌, ◌⊎◌, ℕ, Bool, false, List, [], ◌∷◌, ◌++◌, take, Option, Some, MatchOption, true}
 use Rattle.std.specs.Option.{option_map}
 use Rattle.embed_base.specs.declared.status.Status.{Status}
 use Rattle.embed_base.specs.declared.status.Status.TheVariants as statuses
 use Rattle.embed_base.specs.Counts.{Rose, RoseByMore}
 use Rattle.embed_script.specs.declared.transcript.Transcript.{Transcript}
 use Rattle.embed_cmd.specs.Words.{command_of}
-use Rattle.embed_cmd.specs.Transcript.{Contents, AskedFile, IsOfSome, files_of, first_long, IsTheTranscript, Asks}
+use Rattle.embed_cmd.specs.Transcript.{Contents, AskedFile, files_of, is_longer, IsTheTranscript}
 
 -- a fact that holds where the status tells the end of the definition's run: no fault and no want of memory came before
 abbrev pub OnEnd : Status → Type 0 → Type 0
@@ -71,6 +71,14 @@ pub record WritesAll (words : List (List ℕ)) (contents : Contents) (status : S
   pub status_is : status ≡ transcript.status
   pub written : after ≡ with_more before transcript.text
 
+-- no fault of a read or write was counted
+abbrev pub NoFaults : (reads reads_after writes writes_after : ℕ) → Type 0
+NoFaults reads reads_after writes writes_after = ¬ Rose reads reads_after × ¬ Rose writes writes_after
+
+-- the transcript was written whole, unless memory ran out
+abbrev pub Completes : List (List ℕ) → Contents → Status → (before after : Option (List ℕ)) → Type 0
+Completes words contents status before after = (status ≡ statuses.NoMemory) ⊎ WritesAll words contents status before after
+
 -- the first bytes of the transcript were written
 pub record WritesPrefix (words : List (List ℕ)) (contents : Contents) (before after : Option (List ℕ)) : Type 0 where
   pub transcript : Transcript
@@ -78,29 +86,37 @@ pub record WritesPrefix (words : List (List ℕ)) (contents : Contents) (before 
   pub size : ℕ
   pub written : after ≡ with_more before (take size transcript.text)
 
--- a fault was counted, and what couldn't be read is a path that the command line asks for
-pub record IsReadFault (words : List (List ℕ)) (before after : ℕ) (failed : Option (List ℕ)) : Type 0 where
-  pub rose : Rose before after
-  pub asked : IsSomeAnd failed (Asks words)
+-- a file can be read: it isn't known to be absent, and where its content is told that doesn't pass its limit
+pub record IsReadable (absent : List ℕ → Bool) (contents : Contents) (file : AskedFile) : Type 0 where
+  pub there : absent file.path ≡ false
+  pub short : is_longer file.limit (contents file.path) ≡ false
 
--- a file that is asked for was too long: the first one, where its content is told, and else by the bytes that were taken
-abbrev pub IsTooLongOf : List AskedFile → Contents → ℕ → ℕ → Type 0
-IsTooLongOf files contents before after =
-    IsOfSome (λ file. MatchOption (contents file.path) (RoseByMore before after file.limit) (λ bytes. first_long contents files ≡ Some file.path)) files
+-- so can each of these files
+abbrev pub AreReadableFiles : (absent : List ℕ → Bool) → Contents → List AskedFile → Type 0
+AreReadableFiles absent contents [] = Unit {0}
+AreReadableFiles absent contents (file ∷ files) = IsReadable absent contents file × AreReadableFiles absent contents files
 
--- each of these files is there: none is known to be absent
-abbrev pub AreThere : (List ℕ → Bool) → List AskedFile → Type 0
-AreThere absent [] = Unit {0}
-AreThere absent (file ∷ files) = (absent file.path ≡ false) × AreThere absent files
-
--- each of these files is there, and none that tells its content passes its limit
-pub record AreReadableFiles (absent : List ℕ → Bool) (contents : Contents) (files : List AskedFile) : Type 0 where
-  pub there : AreThere absent files
-  pub short : first_long contents files ≡ None
-
--- so are all files that are asked for
-abbrev pub AreReadable : List (List ℕ) → (List ℕ → Bool) → Contents → Type 0
+-- so can all files that are asked for
+abbrev pub AreReadable : List (List ℕ) → (absent : List ℕ → Bool) → Contents → Type 0
 AreReadable words absent contents = MatchOption (command_of words) (Unit {0}) (λ asked. AreReadableFiles absent contents (files_of asked))
 
-abbrev pub IsTooLong : List (List ℕ) → Contents → ℕ → ℕ → Type 0
-IsTooLong words contents before after = MatchOption (command_of words) ⊥ (λ asked. IsTooLongOf (files_of asked) contents before after)
+-- Files are read one after the other, and reading ends at one of which a fact holds: those before it could be read.
+abbrev pub EndsAt : (AskedFile → Type 0) → (absent : List ℕ → Bool) → Contents → List AskedFile → Type 0
+EndsAt P absent contents [] = ⊥
+EndsAt P absent contents (file ∷ files) = P file ⊎ (IsReadable absent contents file × EndsAt P absent contents files)
+
+-- a fault was counted, and reading the files that are asked for ended at the one whose read failed
+pub record IsReadFault (words : List (List ℕ)) (absent : List ℕ → Bool) (contents : Contents) (before after : ℕ) (failed : Option (List ℕ)) : Type 0 where
+  pub rose : Rose before after
+  pub asked : MatchOption (command_of words) ⊥ (λ asked. EndsAt (λ file. failed ≡ Some file.path) absent contents (files_of asked))
+
+-- a content is too long: a told one by its bytes, another one by the bytes that were taken
+abbrev pub IsPast : ℕ → Option (List ℕ) → ℕ → ℕ → Type 0
+IsPast limit content before after = MatchOption content (RoseByMore before after limit) (λ bytes. is_longer limit content ≡ true)
+
+-- reading ended at a file that was too long
+abbrev pub IsTooLongOf : List AskedFile → (absent : List ℕ → Bool) → Contents → ℕ → ℕ → Type 0
+IsTooLongOf files absent contents before after = EndsAt (λ file. IsPast file.limit (contents file.path) before after) absent contents files
+
+abbrev pub IsTooLong : List (List ℕ) → (absent : List ℕ → Bool) → Contents → ℕ → ℕ → Type 0
+IsTooLong words absent contents before after = MatchOption (command_of words) ⊥ (λ asked. IsTooLongOf (files_of asked) absent contents before after)

@@ -7,9 +7,6 @@ use Rattle.std.specs.Char.{is_ascii_digit}
 use Rattle.std.specs.Str.Parse.{digits_value}
 use Rattle.std.specs.declared.alloc.Global.{Global}
 use Rattle.std.specs.declared.string.String.{String}
-use Rattle.embed_cmd.specs.declared.sorting.Flag.{Flag}
-use Rattle.embed_cmd.specs.declared.sorting.Flag.TheVariants as flags
-use Rattle.embed_cmd.specs.declared.sorting.Sorted.{Sorted}
 use Rattle.embed_cmd.specs.declared.words.Asked.{Asked}
 
 -- the words as bytes
@@ -26,40 +23,60 @@ abbrev pub parts_of : List ℕ → Option (List ℕ × List ℕ)
 parts_of word =
     if nat_lt (position_or_len (λ c. c == 61) word) (length word) then Some (before_first (λ c. c == 61) word, after_first (λ c. c == 61) word) else None
 
--- the options' words
-abbrev pub flag_of : List ℕ → Option Flag
-flag_of word = if bytes_eq word (codes "--steps") then Some flags.Steps else if bytes_eq word (codes "--module") then Some flags.Module else None
+-- What a word, or an option with the next word, is.
+pub data Part : Type 0 where
+  positional : List ℕ → Part
+  -- the value of `--steps`
+  budget : List ℕ → Part
+  -- the value of `--module`
+  module_file : List ℕ → Part
+
+-- an option's word, which takes a value
+abbrev pub option_of : List ℕ → Option (List ℕ → Part)
+option_of word = if bytes_eq word (codes "--steps") then Some budget else if bytes_eq word (codes "--module") then Some module_file else None
 
 -- an option and its value in one word: `--steps=V` or `--module=V`
-abbrev pub setting_of : List ℕ → Option (Flag × List ℕ)
-setting_of word = option_and_then (λ parts. option_map (λ flag. (flag, parts.1)) (flag_of parts.0)) (parts_of word)
+abbrev pub setting_of : List ℕ → Option Part
+setting_of word = option_and_then (λ parts. option_map (λ option. option parts.1) (option_of parts.0)) (parts_of word)
 
--- words sorted by what they are for, with a value of an option before them
-abbrev pub with_value : Flag → List ℕ → Sorted → Sorted
-with_value flags.Steps value more = record { positional = more.positional; steps = value ∷ more.steps; modules = more.modules }
-with_value flags.Module value more = record { positional = more.positional; steps = more.steps; modules = value ∷ more.modules }
+abbrev pub before : Part → Option (List Part) → Option (List Part)
+before part more = option_map (λ parts. part ∷ parts) more
 
--- and with a positional word before them
-abbrev pub with_word : List ℕ → Sorted → Sorted
-with_word word more = record { positional = word ∷ more.positional; steps = more.steps; modules = more.modules }
-
--- a word before others: an option with its value; an option that takes the next word; a word that is positional, unless it
--- begins with `-`
-abbrev pub placed : List ℕ → Option (Flag × List ℕ) → Option Flag → Option Sorted → (Flag → Option Sorted) → Option Sorted
-placed word (Some setting) flag more taking = option_map (with_value setting.0 setting.1) more
-placed word None (Some flag) more taking = taking flag
-placed word None None more taking = if is_dashed word then None else option_map (with_word word) more
+-- a word before others: an option with its value; an option that takes the next word; a word that is positional, unless it begins
+-- with `-`
+abbrev pub placed : List ℕ → Option Part → Option (List ℕ → Part) → (more : Option (List Part)) → (taking : (List ℕ → Part) → Option (List Part)) → Option (List Part)
+placed word (Some part) option more taking = before part more
+placed word None (Some option) more taking = taking option
+placed word None None more taking = if is_dashed word then None else before (positional word) more
 
 abbrev mutual
-  -- the words, sorted by what they are for
-  pub sorted_of : List (List ℕ) → Option Sorted
-  sorted_of [] = Some (record { positional = []; steps = []; modules = [] })
-  sorted_of (word ∷ words) = placed word (setting_of word) (flag_of word) (sorted_of words) (λ flag. taking flag words)
+  -- the words, each by what it is
+  pub parts_in : List (List ℕ) → Option (List Part)
+  parts_in [] = Some []
+  parts_in (word ∷ words) = placed word (setting_of word) (option_of word) (parts_in words) (λ option. value_in option words)
 
   -- the words after an option that takes the next one as its value, which doesn't begin with `-`
-  pub taking : Flag → List (List ℕ) → Option Sorted
-  taking flag [] = None
-  taking flag (word ∷ words) = if is_dashed word then None else option_map (with_value flag word) (sorted_of words)
+  pub value_in : (List ℕ → Part) → List (List ℕ) → Option (List Part)
+  value_in option [] = None
+  value_in option (word ∷ words) = if is_dashed word then None else before (option word) (parts_in words)
+
+abbrev pub positional_words : List Part → List (List ℕ)
+positional_words [] = []
+positional_words (positional word ∷ parts) = word ∷ positional_words parts
+positional_words (budget value ∷ parts) = positional_words parts
+positional_words (module_file value ∷ parts) = positional_words parts
+
+abbrev pub budget_values : List Part → List (List ℕ)
+budget_values [] = []
+budget_values (positional word ∷ parts) = budget_values parts
+budget_values (budget value ∷ parts) = value ∷ budget_values parts
+budget_values (module_file value ∷ parts) = budget_values parts
+
+abbrev pub module_values : List Part → List (List ℕ)
+module_values [] = []
+module_values (positional word ∷ parts) = module_values parts
+module_values (budget value ∷ parts) = module_values parts
+module_values (module_file value ∷ parts) = value ∷ module_values parts
 
 -- the script's path: the positional words are `run` and a path that isn't empty
 abbrev pub script_of : List (List ℕ) → Option (List ℕ)
@@ -116,11 +133,11 @@ fitting modules = if are_modules modules then Some modules else None
 abbrev pub modules_of : List (List ℕ) → Option (List (List ℕ × List ℕ))
 modules_of values = option_and_then fitting (all_of (map module_of values))
 
--- what sorted words ask for
-abbrev pub command_of_sorted : Sorted → Option Asked
-command_of_sorted s =
-    option_and_then (λ script. option_and_then (λ budget. option_map (λ modules. record { script = script; modules = modules; budget = budget }) (modules_of s.modules)) (budget_of s.steps)) (script_of s.positional)
+-- what is asked for by positional words and by the options' values
+abbrev pub asked_by : (words budgets modules : List (List ℕ)) → Option Asked
+asked_by words budgets modules =
+    option_and_then (λ script. option_and_then (λ units. option_map (λ named. record { script = script; modules = named; budget = units }) (modules_of modules)) (budget_of budgets)) (script_of words)
 
 -- what the words of a command line ask for
 abbrev pub command_of : List (List ℕ) → Option Asked
-command_of words = option_and_then command_of_sorted (sorted_of words)
+command_of words = option_and_then (λ parts. asked_by (positional_words parts) (budget_values parts) (module_values parts)) (parts_in words)

@@ -1,8 +1,8 @@
 ghost use Rattle.std.specs.Prelude.{◌≡◌, ℕ, List, ◌<◌, ◌≤◌, false, Some, None, OnOk, IfOk, IfSome, length};
 ghost use Rattle.embed_base.specs.Counts.{Rose};
-ghost use Rattle.embed_cmd.specs.Transcript.{IsOfSome, IsAsked, is_longer, first_long, files_of, module_files, most_script_bytes};
-ghost use Rattle.embed_cmd.specs.Headline.{AreThere};
-ghost use Rattle.embed_cmd.specs.AskedFiles.{OnFailed, UnlessFailed, IfTooLong, IsPast, IsLongPath, AreFilesOf};
+ghost use Rattle.embed_cmd.specs.Transcript.{is_longer, files_of, module_files, most_script_bytes};
+ghost use Rattle.embed_cmd.specs.Headline.{AreReadableFiles, EndsAt, IsPast};
+ghost use Rattle.embed_cmd.specs.AskedFiles.{OnFailed, UnlessFailed, IfTooLong, IsLongPath, AreFilesOf};
 
 use crate::words::Asked;
 use embed_base::limits::{MOST_MODULE_BYTES, MOST_SCRIPT_BYTES};
@@ -87,13 +87,12 @@ fn read_modules<F: Files>(
     modules: &[(PlainString, PlainString)],
 ) -> Result<Vec<ModuleFile>, Unread>
     ensures named { IfOk result (λ read. AreFilesOf (F.content files.old) modules.now read.items) }
-    ensures not_longer { OnOk result (first_long (F.content files.old) (module_files modules.now) ≡ None) }
-    ensures there { OnOk result (AreThere (F.absent files.old) (module_files modules.now)) }
-    ensures too_long { IfTooLong result (λ path. IsLongPath (module_files modules.now) (F.content files.old) (F.taken files.old) (F.taken files.new) path) }
+    ensures readable { OnOk result (AreReadableFiles (F.absent files.old) (F.content files.old) (module_files modules.now)) }
+    ensures too_long { IfTooLong result (λ path. IsLongPath (module_files modules.now) (F.absent files.old) (F.content files.old) (F.taken files.old) (F.taken files.new) path) }
 
     ensures failed_rose { OnFailed result (Rose (F.faults files.old) (F.faults files.new)) }
     ensures rose_failed { UnlessFailed result (¬ (F.faults files.old < F.faults files.new)) }
-    ensures failed_named { OnFailed result (IsOfSome (λ file. F.failed files.new ≡ Some file.path) (module_files modules.now)) }
+    ensures failed_named { OnFailed result (EndsAt (λ file. F.failed files.new ≡ Some file.path) (F.absent files.old) (F.content files.old) (module_files modules.now)) }
     ensures failed_stays { UnlessFailed result (F.failed files.new ≡ F.failed files.old) }
 
     ensures contents_stay { (name : List ℕ) → F.content files.new name ≡ F.content files.old name }
@@ -122,13 +121,12 @@ pub(crate) fn read_asked<F: Files>(
     ensures script { IfOk result (λ read. IfSome (F.content files.old asked.now.script) (λ told. read.script.items ≡ told)) }
     ensures within { IfOk result (λ read. length read.script.items ≤ most_script_bytes) }
     ensures modules { IfOk result (λ read. AreFilesOf (F.content files.old) asked.now.modules read.modules.items) }
-    ensures not_longer { OnOk result (first_long (F.content files.old) (files_of asked.now) ≡ None) }
-    ensures there { OnOk result (AreThere (F.absent files.old) (files_of asked.now)) }
-    ensures too_long { IfTooLong result (λ path. IsLongPath (files_of asked.now) (F.content files.old) (F.taken files.old) (F.taken files.new) path) }
+    ensures readable { OnOk result (AreReadableFiles (F.absent files.old) (F.content files.old) (files_of asked.now)) }
+    ensures too_long { IfTooLong result (λ path. IsLongPath (files_of asked.now) (F.absent files.old) (F.content files.old) (F.taken files.old) (F.taken files.new) path) }
 
     ensures failed_rose { OnFailed result (Rose (F.faults files.old) (F.faults files.new)) }
     ensures rose_failed { UnlessFailed result (¬ (F.faults files.old < F.faults files.new)) }
-    ensures failed_named { OnFailed result (IsOfSome (λ file. F.failed files.new ≡ Some file.path) (files_of asked.now)) }
+    ensures failed_named { OnFailed result (EndsAt (λ file. F.failed files.new ≡ Some file.path) (F.absent files.old) (F.content files.old) (files_of asked.now)) }
     ensures failed_stays { UnlessFailed result (F.failed files.new ≡ F.failed files.old) }
 
     ensures contents_stay { (name : List ℕ) → F.content files.new name ≡ F.content files.old name }

@@ -5,9 +5,9 @@ ghost use Rattle.embed_cmd.specs.Words.{command_of, texts_of};
 ghost use Rattle.small_parser.specs.Grammar as grammar;
 ghost use Rattle.embed_script.specs.Functions.{Modules};
 ghost use Rattle.embed_script.specs.ModuleFiles.{AreDecodings};
-ghost use Rattle.embed_cmd.specs.Transcript.{IsScriptText, IsTheScriptTranscript, IsTheAskedTranscript, IsAsked, IsOfSome, files_of, IsTheTranscript, TellsAll, most_script_bytes, too_long, refused, usage};
+ghost use Rattle.embed_cmd.specs.Transcript.{IsScriptText, IsTheScriptTranscript, IsTheAskedTranscript, IsAsked, files_of, IsTheTranscript, TellsAll, most_script_bytes, too_long, refused, usage};
 ghost use Rattle.embed_cmd.specs.Reading.{IsTree, IsTextEnd, IsScriptEnd, IsTranscriptEnd, OnRead, UnlessRead};
-ghost use Rattle.embed_cmd.specs.Headline.{with_more, OnEnd, OnReadFault, OnWriteFault, OnNoMemory, OnUsage, OnTooLongStatus, UnlessReadFault, UnlessWriteFault, UnlessTooLong, IfRead, WritesAll, WritesPrefix, IsReadFault, IsTooLong, IsTooLongOf, AreReadable, AreReadableFiles};
+ghost use Rattle.embed_cmd.specs.Headline.{with_more, OnEnd, OnReadFault, OnWriteFault, OnNoMemory, OnUsage, OnTooLongStatus, UnlessReadFault, UnlessWriteFault, UnlessTooLong, IfRead, WritesAll, Completes, NoFaults, WritesPrefix, IsReadFault, IsTooLong, IsTooLongOf, AreReadable, AreReadableFiles, EndsAt};
 
 use crate::asked_files::{Unread, read_asked};
 use crate::words::{Asked, read_words};
@@ -119,11 +119,11 @@ fn asked_transcript<F: Files>(
 ) -> Result<Transcript, Fault>
     ensures exact { IfOk result (λ t. ((path : List ℕ) → IsAsked asked.now path → IsSome (F.content files.old path)) → IsTheAskedTranscript asked.now (F.content files.old) t) }
     ensures end { IfOk result (λ t. IsScriptEnd t.status) }
-    ensures too_long { IfOk result (λ t. OnTooLongStatus t.status (IsTooLongOf (files_of asked.now) (F.content files.old) (F.taken files.old) (F.taken files.new))) }
+    ensures too_long { IfOk result (λ t. OnTooLongStatus t.status (IsTooLongOf (files_of asked.now) (F.absent files.old) (F.content files.old) (F.taken files.old) (F.taken files.new))) }
     ensures readable { IfOk result (λ t. UnlessTooLong t.status (AreReadableFiles (F.absent files.old) (F.content files.old) (files_of asked.now))) }
 
     ensures read_rose { OnRead result (Rose (F.faults files.old) (F.faults files.new)) }
-    ensures read_named { OnRead result (IsOfSome (λ file. F.failed files.new ≡ Some file.path) (files_of asked.now)) }
+    ensures read_named { OnRead result (EndsAt (λ file. F.failed files.new ≡ Some file.path) (F.absent files.old) (F.content files.old) (files_of asked.now)) }
     ensures rose_read { UnlessRead result (¬ (F.faults files.old < F.faults files.new)) }
     ensures failed_stays { UnlessRead result (F.failed files.new ≡ F.failed files.old) }
 
@@ -156,10 +156,10 @@ fn command_transcript<F: Files>(
     ensures exact { IfOk result (λ t. TellsAll (texts_of words.now) (F.content files.old) → IsTheTranscript (texts_of words.now) (F.content files.old) t) }
     ensures end { IfOk result (λ t. IsTranscriptEnd t.status) }
     ensures usage_only { IfOk result (λ t. OnUsage t.status (command_of (texts_of words.now) ≡ None)) }
-    ensures too_long { IfOk result (λ t. OnTooLongStatus t.status (IsTooLong (texts_of words.now) (F.content files.old) (F.taken files.old) (F.taken files.new))) }
+    ensures too_long { IfOk result (λ t. OnTooLongStatus t.status (IsTooLong (texts_of words.now) (F.absent files.old) (F.content files.old) (F.taken files.old) (F.taken files.new))) }
     ensures readable { IfOk result (λ t. UnlessTooLong t.status (AreReadable (texts_of words.now) (F.absent files.old) (F.content files.old))) }
 
-    ensures read { OnRead result (IsReadFault (texts_of words.now) (F.faults files.old) (F.faults files.new) (F.failed files.new)) }
+    ensures read { OnRead result (IsReadFault (texts_of words.now) (F.absent files.old) (F.content files.old) (F.faults files.old) (F.faults files.new) (F.failed files.new)) }
     ensures rose_read { UnlessRead result (¬ (F.faults files.old < F.faults files.new)) }
     ensures failed_stays { UnlessRead result (F.failed files.new ≡ F.failed files.old) }
 
@@ -200,21 +200,23 @@ pub fn run_main<F: Files, O: Sink>(
 ) -> Status
     // The program writes exactly the transcript of its command line, and ends with its status.
     ensures exact { TellsAll (texts_of words.now) (F.content files.old) → OnEnd result (WritesAll (texts_of words.now) (F.content files.old) result (O.written out.old) (O.written out.new)) }
-    ensures complete { TellsAll (texts_of words.now) (F.content files.old) → ¬ Rose (F.faults files.old) (F.faults files.new) → ¬ Rose (O.faults out.old) (O.faults out.new) → (result ≡ Status.NoMemory) ⊎ WritesAll (texts_of words.now) (F.content files.old) result (O.written out.old) (O.written out.new) }
+    ensures complete { TellsAll (texts_of words.now) (F.content files.old) → NoFaults (F.faults files.old) (F.faults files.new) (O.faults out.old) (O.faults out.new)
+        → Completes (texts_of words.now) (F.content files.old) result (O.written out.old) (O.written out.new) }
 
     // Where a fault or want of memory stops it earlier, it has written a prefix of the transcript, or nothing.
     ensures read_fault { OnReadFault result (O.written out.new ≡ O.written out.old) }
     ensures write_fault { TellsAll (texts_of words.now) (F.content files.old) → OnWriteFault result (WritesPrefix (texts_of words.now) (F.content files.old) (O.written out.old) (O.written out.new)) }
     ensures no_memory { TellsAll (texts_of words.now) (F.content files.old) → OnNoMemory result ((O.written out.new ≡ O.written out.old) ⊎ WritesPrefix (texts_of words.now) (F.content files.old) (O.written out.old) (O.written out.new)) }
 
-    // A read fault comes only where one was counted, for a path that was asked for, and always where one was counted.
-    ensures read_cause { OnReadFault result (IsReadFault (texts_of words.now) (F.faults files.old) (F.faults files.new) (F.failed files.new)) }
+    // A read fault comes only where one was counted, and always where one was counted. The files that are asked for are read in
+    // their order, the script's first: those before the one that failed are there, and none that tells its content is too long.
+    ensures read_cause { OnReadFault result (IsReadFault (texts_of words.now) (F.absent files.old) (F.content files.old) (F.faults files.old) (F.faults files.new) (F.failed files.new)) }
     ensures read_always { UnlessReadFault result (¬ (F.faults files.old < F.faults files.new)) }
     ensures failed_stays { UnlessReadFault result (F.failed files.new ≡ F.failed files.old) }
 
     // A run or the refusal of a script comes only where each file that was asked for is there, and none that tells its content
     // passes its limit. Where a write failed, that is so, or what was being written tells the file that is too long.
-    ensures readable { IfRead result (AreReadable (texts_of words.now) (F.absent files.old) (F.content files.old)) (IsTooLong (texts_of words.now) (F.content files.old) (F.taken files.old) (F.taken files.new)) }
+    ensures readable { IfRead result (AreReadable (texts_of words.now) (F.absent files.old) (F.content files.old)) (IsTooLong (texts_of words.now) (F.absent files.old) (F.content files.old) (F.taken files.old) (F.taken files.new)) }
 
     // A write fault comes only where one was counted, and always where one was counted.
     ensures write_cause { OnWriteFault result (Rose (O.faults out.old) (O.faults out.new)) }
@@ -224,9 +226,9 @@ pub fn run_main<F: Files, O: Sink>(
     ensures usage_only { OnUsage result (command_of (texts_of words.now) ≡ None) }
     ensures usage_reads_nothing { command_of (texts_of words.now) ≡ None → files.new ≡ files.old }
 
-    // A file that was asked for is too long: the first one, or, where its content isn't told, one of which more was taken
-    // than its limit.
-    ensures too_long_cause { OnTooLongStatus result (IsTooLong (texts_of words.now) (F.content files.old) (F.taken files.old) (F.taken files.new)) }
+    // A file that was asked for is too long, by its content where that is told, and else by the bytes that were taken. Those
+    // before it are there, and none that tells its content is too long.
+    ensures too_long_cause { OnTooLongStatus result (IsTooLong (texts_of words.now) (F.absent files.old) (F.content files.old) (F.taken files.old) (F.taken files.new)) }
 
     // What the files tell stays.
     ensures contents_stay { (name : List ℕ) → F.content files.new name ≡ F.content files.old name }

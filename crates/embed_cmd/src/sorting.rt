@@ -1,6 +1,6 @@
 ghost use Rattle.std.specs.Prelude.{◌≡◌, ℕ, List, [], ◌∷◌, Some, None, OnOk, IfOk, MatchOption, string_bytes};
-ghost use Rattle.embed_cmd.specs.Words.{is_dashed, parts_of, flag_of, setting_of, with_value, with_word, sorted_of, taking, texts_of};
-ghost use Rattle.embed_cmd.specs.Sorting.{joined, sorted_after};
+ghost use Rattle.embed_cmd.specs.Words.{is_dashed, parts_of, texts_of};
+ghost use Rattle.embed_cmd.specs.Sorting.{flag_of, flag_setting_of, with_value, sorted_of, joined, sorted_after};
 
 use embed_base::{PlainList, PlainString};
 use std::alloc::{AllocError, Global};
@@ -58,7 +58,7 @@ fn named_flag(word: &str) -> Option<Flag>
 
 /// The option and the value that a word is.
 fn setting(word: &str) -> Option<(Flag, &str)>
-    ensures { MatchOption result (setting_of word.now ≡ None) (λ s. setting_of word.now ≡ Some (s.0, s.1.now)) }
+    ensures { MatchOption result (flag_setting_of word.now ≡ None) (λ s. flag_setting_of word.now ≡ Some (s.0, s.1.now)) }
 {
     let (name, value) = parts(word)?;
     let flag = named_flag(name)?;

@@ -2,7 +2,8 @@ ghost use Rattle.std.specs.Prelude.{◌≡◌, ℕ, List, Some, None, IfOk};
 ghost use Rattle.std.specs.List.{list_all, list_any};
 ghost use Rattle.std.specs.Char.{is_ascii_digit};
 ghost use Rattle.std.specs.Str.{bytes_eq};
-ghost use Rattle.embed_cmd.specs.Words.{script_of, is_short_number, units_of, budget_of, module_of, modules_of, command_of_sorted, command_of, texts_of};
+ghost use Rattle.embed_cmd.specs.Words.{script_of, is_short_number, units_of, budget_of, module_of, modules_of, command_of, texts_of};
+ghost use Rattle.embed_cmd.specs.Sorting.{command_of_sorted};
 
 use crate::sorting::{Sorted, parts, sort_words};
 use embed_base::limits::{MOST_BUDGET, MOST_MODULES, USUAL_BUDGET};

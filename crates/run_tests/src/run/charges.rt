@@ -76,3 +76,41 @@ fn the_first_file_that_is_not_read_decides(rt: HostRuntime) -> Result<(), Fail> 
     assert_eq!(rt; long.as_str(), "TooLong|too long: s.js\n");
     Ok(())
 }
+
+// What `print(1);` gives with modules at these paths, of which `m` and `k` are there and `l` is too long, where the read of this
+// number fails, counted from 0.
+fn with_fault(alloc: Global, paths: &[&str], fails: u64) -> Result<String, Fail> {
+    let mut words = owned(alloc, ["run", "s.js"].as_slice())?;
+    for path in paths {
+        words.push(format!(in alloc; "--module={path}=f{path}")?)?;
+    }
+    let mut long = Vec::new(alloc);
+    long.resize(16_777_217, 0)?;
+    let mut pairs = Vec::new(alloc);
+    pairs.push((
+        String::from_str(alloc, "s.js")?,
+        Vec::from_slice(alloc, b"print(1);")?,
+    ))?;
+    pairs.push((String::from_str(alloc, "fm")?, Vec::new(alloc)))?;
+    pairs.push((String::from_str(alloc, "fk")?, Vec::new(alloc)))?;
+    pairs.push((String::from_str(alloc, "fl")?, long))?;
+    let mut fail_at = Vec::new(alloc);
+    fail_at.push(fails)?;
+    let mut files = MemFiles::new(pairs, fail_at);
+    let mut out = MemSink::new(alloc, 7, Vec::new(alloc));
+    let status = run_main(alloc, words.as_slice(), &mut files, &mut out);
+    told(alloc, status, out.bytes())
+}
+
+#[test]
+fn each_file_is_read_once_in_the_order_of_the_words(rt: HostRuntime) -> Result<(), Fail> {
+    let first_long = with_fault(rt.alloc(), ["m", "l", "n"].as_slice(), 9)?;
+    assert_eq!(rt; first_long.as_str(), "TooLong|too long: fl\n");
+    let first_absent = with_fault(rt.alloc(), ["m", "n", "l"].as_slice(), 9)?;
+    assert_eq!(rt; first_absent.as_str(), "ReadFault|");
+    let last_fails = with_fault(rt.alloc(), ["m", "k"].as_slice(), 2)?;
+    assert_eq!(rt; last_fails.as_str(), "ReadFault|");
+    let none_fails = with_fault(rt.alloc(), ["m", "k"].as_slice(), 3)?;
+    assert_eq!(rt; none_fails.as_str(), "Done|1\n");
+    Ok(())
+}

@@ -1,7 +1,7 @@
--- No module so far was too long, no read failed, and the files so far are those of the modules so far.
-use Rattle.std.proofs.Common.{◌≡◌, ℕ, List, ◌≤◌, drop, take}
-use Rattle.embed_cmd.specs.Transcript.{first_long, module_files}
-use Rattle.embed_cmd.specs.Headline.{AreThere}
+-- Each module so far could be read, and the files so far are those of the modules so far.
+use Rattle.std.proofs.Common.{◌≡◌, ℕ, List, ◌≤◌, take}
+use Rattle.embed_cmd.specs.Transcript.{module_files}
+use Rattle.embed_cmd.specs.Headline.{AreReadableFiles}
 use Rattle.embed_cmd.specs.AskedFiles.{AreFilesOf}
 use Rattle.embed_cmd.proofs.asked_files.read_modules.Given as goal
 
@@ -13,6 +13,5 @@ invariant-loop-module g l = record {
   taken : g.F.Files.taken l.initial.files ≤ g.F.Files.taken l.files;
   named : AreFilesOf (g.F.Files.content l.initial.files) (take l.module-index l.modules) l.read.items;
   absent : (name : List ℕ) → g.F.Files.absent l.files name ≡ g.F.Files.absent l.initial.files name;
-  there : AreThere (g.F.Files.absent l.initial.files) (module_files (take l.module-index l.modules));
-  left : first_long (g.F.Files.content l.initial.files) (module_files l.modules) ≡ first_long (g.F.Files.content l.initial.files) (module_files (drop l.module-index l.modules));
+  readable : AreReadableFiles (g.F.Files.absent l.initial.files) (g.F.Files.content l.initial.files) (module_files (take l.module-index l.modules));
 }

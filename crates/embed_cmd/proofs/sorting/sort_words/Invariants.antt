@@ -1,7 +1,7 @@
 -- The words that are left, after those that are sorted, give what all give.
 use Rattle.std.proofs.Common.{◌≡◌, drop}
-use Rattle.embed_cmd.specs.Words.{sorted_of, texts_of}
-use Rattle.embed_cmd.specs.Sorting.{sorted_after}
+use Rattle.embed_cmd.specs.Words.{texts_of}
+use Rattle.embed_cmd.specs.Sorting.{sorted_of, sorted_after}
 use Rattle.embed_cmd.proofs.sorting.sort_words.Given as goal
 
 abbrev pub invariant-loop-word : goal.invariant-loop-word
