@@ -1,0 +1,22 @@
+pub mod Views
+pub mod Terms
+pub mod Types
+pub mod PerformLaws
+pub mod Going
+pub mod Kept
+pub mod Operands
+pub mod Labels
+pub mod Beginning
+pub mod Branching
+pub mod Calling
+pub mod Finding
+pub mod Charging
+pub mod Entered
+pub mod Stepping
+pub mod Parts
+pub mod Joins
+pub mod Performing
+pub mod IndirectLaws
+pub mod StepLaws
+pub mod Supplied
+mod Worked

@@ -1,0 +1,150 @@
+use Rattle.wasm_syntax.specs.declared.sorts.Simple.TheVariants as p
+use Rattle.wasm_machine.proofs.Finding as find
+use Rattle.wasm_machine.proofs.frame.WasmFrame.simple.Goals as goal
+
+pub constant-requires : goal.constant-requires
+constant-requires c = find.const_room c.args.store.now c.args.self.now c.in-Const.number (find.as_is c.args.store.now c.args.instr (p.Const c.in-Const.number) c.args.self.now c.in-Const.is c.requires)
+
+pub unary-requires-clause-tops : goal.unary-requires-clause-tops
+unary-requires-clause-tops c = find.unary_tops c.args.store.now c.args.self.now c.in-Unary.ty c.in-Unary.op (find.as_is c.args.store.now c.args.instr (p.Unary c.in-Unary.ty c.in-Unary.op) c.args.self.now c.in-Unary.is c.requires)
+
+pub unary-requires-clause-width : goal.unary-requires-clause-width
+unary-requires-clause-width c = find.unary_width c.args.store.now c.args.self.now c.in-Unary.ty c.in-Unary.op (find.as_is c.args.store.now c.args.instr (p.Unary c.in-Unary.ty c.in-Unary.op) c.args.self.now c.in-Unary.is c.requires)
+
+pub binary-requires-clause-tops : goal.binary-requires-clause-tops
+binary-requires-clause-tops c = find.binary_tops c.args.store.now c.args.self.now c.in-Binary.ty c.in-Binary.op (find.as_is c.args.store.now c.args.instr (p.Binary c.in-Binary.ty c.in-Binary.op) c.args.self.now c.in-Binary.is c.requires)
+
+pub test-requires-clause-tops : goal.test-requires-clause-tops
+test-requires-clause-tops c = find.test_tops c.args.store.now c.args.self.now c.in-Test.ty (find.as_is c.args.store.now c.args.instr (p.Test c.in-Test.ty) c.args.self.now c.in-Test.is c.requires)
+
+pub compare-requires-clause-tops : goal.compare-requires-clause-tops
+compare-requires-clause-tops c = find.compare_tops c.args.store.now c.args.self.now c.in-Compare.ty c.in-Compare.op (find.as_is c.args.store.now c.args.instr (p.Compare c.in-Compare.ty c.in-Compare.op) c.args.self.now c.in-Compare.is c.requires)
+
+pub convert-requires-clause-tops : goal.convert-requires-clause-tops
+convert-requires-clause-tops c = find.convert_tops c.args.store.now c.args.self.now c.in-Convert.op (find.as_is c.args.store.now c.args.instr (p.Convert c.in-Convert.op) c.args.self.now c.in-Convert.is c.requires)
+
+pub local_get-requires-clause-there : goal.local_get-requires-clause-there
+local_get-requires-clause-there c = find.local_get_there c.args.store.now c.args.self.now c.in-LocalGet.x (find.as_is c.args.store.now c.args.instr (p.LocalGet c.in-LocalGet.x) c.args.self.now c.in-LocalGet.is c.requires)
+
+pub local_get-requires-clause-room : goal.local_get-requires-clause-room
+local_get-requires-clause-room c = find.local_get_room c.args.store.now c.args.self.now c.in-LocalGet.x (find.as_is c.args.store.now c.args.instr (p.LocalGet c.in-LocalGet.x) c.args.self.now c.in-LocalGet.is c.requires)
+
+pub local_set-requires-clause-there : goal.local_set-requires-clause-there
+local_set-requires-clause-there c = find.local_set_there c.args.store.now c.args.self.now c.in-LocalSet.x (find.as_is c.args.store.now c.args.instr (p.LocalSet c.in-LocalSet.x) c.args.self.now c.in-LocalSet.is c.requires)
+
+pub local_set-requires-clause-some : goal.local_set-requires-clause-some
+local_set-requires-clause-some c = find.local_set_some c.args.store.now c.args.self.now c.in-LocalSet.x (find.as_is c.args.store.now c.args.instr (p.LocalSet c.in-LocalSet.x) c.args.self.now c.in-LocalSet.is c.requires)
+
+pub local_tee-requires-clause-there : goal.local_tee-requires-clause-there
+local_tee-requires-clause-there c = find.local_tee_there c.args.store.now c.args.self.now c.in-LocalTee.x (find.as_is c.args.store.now c.args.instr (p.LocalTee c.in-LocalTee.x) c.args.self.now c.in-LocalTee.is c.requires)
+
+pub local_tee-requires-clause-some : goal.local_tee-requires-clause-some
+local_tee-requires-clause-some c = find.local_tee_some c.args.store.now c.args.self.now c.in-LocalTee.x (find.as_is c.args.store.now c.args.instr (p.LocalTee c.in-LocalTee.x) c.args.self.now c.in-LocalTee.is c.requires)
+
+pub global_get-requires-clause-there : goal.global_get-requires-clause-there
+global_get-requires-clause-there c = find.global_get_there c.args.store.now c.args.self.now c.in-GlobalGet.x (find.as_is c.args.store.now c.args.instr (p.GlobalGet c.in-GlobalGet.x) c.args.self.now c.in-GlobalGet.is c.requires)
+
+pub global_get-requires-clause-room : goal.global_get-requires-clause-room
+global_get-requires-clause-room c = find.global_get_room c.args.store.now c.args.self.now c.in-GlobalGet.x (find.as_is c.args.store.now c.args.instr (p.GlobalGet c.in-GlobalGet.x) c.args.self.now c.in-GlobalGet.is c.requires)
+
+pub global_set-requires-clause-there : goal.global_set-requires-clause-there
+global_set-requires-clause-there c = find.global_set_there c.args.store.now c.args.self.now c.in-GlobalSet.x (find.as_is c.args.store.now c.args.instr (p.GlobalSet c.in-GlobalSet.x) c.args.self.now c.in-GlobalSet.is c.requires)
+
+pub global_set-requires-clause-some : goal.global_set-requires-clause-some
+global_set-requires-clause-some c = find.global_set_some c.args.store.now c.args.self.now c.in-GlobalSet.x (find.as_is c.args.store.now c.args.instr (p.GlobalSet c.in-GlobalSet.x) c.args.self.now c.in-GlobalSet.is c.requires)
+
+pub table_get-requires-clause-there : goal.table_get-requires-clause-there
+table_get-requires-clause-there c = find.table_get_there c.args.store.now c.args.self.now c.in-TableGet.x (find.as_is c.args.store.now c.args.instr (p.TableGet c.in-TableGet.x) c.args.self.now c.in-TableGet.is c.requires)
+
+pub table_get-requires-clause-tops : goal.table_get-requires-clause-tops
+table_get-requires-clause-tops c = find.table_get_tops c.args.store.now c.args.self.now c.in-TableGet.x (find.as_is c.args.store.now c.args.instr (p.TableGet c.in-TableGet.x) c.args.self.now c.in-TableGet.is c.requires)
+
+pub table_set-requires-clause-there : goal.table_set-requires-clause-there
+table_set-requires-clause-there c = find.table_set_there c.args.store.now c.args.self.now c.in-TableSet.x (find.as_is c.args.store.now c.args.instr (p.TableSet c.in-TableSet.x) c.args.self.now c.in-TableSet.is c.requires)
+
+pub table_set-requires-clause-tops : goal.table_set-requires-clause-tops
+table_set-requires-clause-tops c = find.table_set_tops c.args.store.now c.args.self.now c.in-TableSet.x (find.as_is c.args.store.now c.args.instr (p.TableSet c.in-TableSet.x) c.args.self.now c.in-TableSet.is c.requires)
+
+pub elem_drop-requires-clause-there : goal.elem_drop-requires-clause-there
+elem_drop-requires-clause-there c = find.elem_drop_there c.args.store.now c.args.self.now c.in-ElemDrop.x (find.as_is c.args.store.now c.args.instr (p.ElemDrop c.in-ElemDrop.x) c.args.self.now c.in-ElemDrop.is c.requires)
+
+pub table_grow-requires-clause-there : goal.table_grow-requires-clause-there
+table_grow-requires-clause-there c = find.table_grow_there c.args.store.now c.args.self.now c.in-TableGrow.x (find.as_is c.args.store.now c.args.instr (p.TableGrow c.in-TableGrow.x) c.args.self.now c.in-TableGrow.is c.requires)
+
+pub table_grow-requires-clause-tops : goal.table_grow-requires-clause-tops
+table_grow-requires-clause-tops c = find.table_grow_tops c.args.store.now c.args.self.now c.in-TableGrow.x (find.as_is c.args.store.now c.args.instr (p.TableGrow c.in-TableGrow.x) c.args.self.now c.in-TableGrow.is c.requires)
+
+pub table_size-requires-clause-there : goal.table_size-requires-clause-there
+table_size-requires-clause-there c = find.table_size_there c.args.store.now c.args.self.now c.in-TableSize.x (find.as_is c.args.store.now c.args.instr (p.TableSize c.in-TableSize.x) c.args.self.now c.in-TableSize.is c.requires)
+
+pub table_size-requires-clause-room : goal.table_size-requires-clause-room
+table_size-requires-clause-room c = find.table_size_room c.args.store.now c.args.self.now c.in-TableSize.x (find.as_is c.args.store.now c.args.instr (p.TableSize c.in-TableSize.x) c.args.self.now c.in-TableSize.is c.requires)
+
+pub table_fill-requires-clause-there : goal.table_fill-requires-clause-there
+table_fill-requires-clause-there c = find.table_fill_there c.args.store.now c.args.self.now c.in-TableFill.x (find.as_is c.args.store.now c.args.instr (p.TableFill c.in-TableFill.x) c.args.self.now c.in-TableFill.is c.requires)
+
+pub table_fill-requires-clause-tops : goal.table_fill-requires-clause-tops
+table_fill-requires-clause-tops c = find.table_fill_tops c.args.store.now c.args.self.now c.in-TableFill.x (find.as_is c.args.store.now c.args.instr (p.TableFill c.in-TableFill.x) c.args.self.now c.in-TableFill.is c.requires)
+
+pub ref_null-requires : goal.ref_null-requires
+ref_null-requires c = find.null_room c.args.store.now c.args.self.now c.in-RefNull.ty (find.as_is c.args.store.now c.args.instr (p.RefNull c.in-RefNull.ty) c.args.self.now c.in-RefNull.is c.requires)
+
+pub ref_func-requires-clause-there : goal.ref_func-requires-clause-there
+ref_func-requires-clause-there c = find.ref_func_there c.args.store.now c.args.self.now c.in-RefFunc.x (find.as_is c.args.store.now c.args.instr (p.RefFunc c.in-RefFunc.x) c.args.self.now c.in-RefFunc.is c.requires)
+
+pub ref_func-requires-clause-room : goal.ref_func-requires-clause-room
+ref_func-requires-clause-room c = find.ref_func_room c.args.store.now c.args.self.now c.in-RefFunc.x (find.as_is c.args.store.now c.args.instr (p.RefFunc c.in-RefFunc.x) c.args.self.now c.in-RefFunc.is c.requires)
+
+pub table_init-requires-clause-there : goal.table_init-requires-clause-there
+table_init-requires-clause-there c = (find.table_init_finds c.args.store.now c.args.self.now c.in-TableInit.elem c.in-TableInit.table (find.as_is c.args.store.now c.args.instr (p.TableInit c.in-TableInit.elem c.in-TableInit.table) c.args.self.now c.in-TableInit.is c.requires)).there
+
+pub table_init-requires-clause-there_segment : goal.table_init-requires-clause-there_segment
+table_init-requires-clause-there_segment c = (find.table_init_finds c.args.store.now c.args.self.now c.in-TableInit.elem c.in-TableInit.table (find.as_is c.args.store.now c.args.instr (p.TableInit c.in-TableInit.elem c.in-TableInit.table) c.args.self.now c.in-TableInit.is c.requires)).there_segment
+
+pub table_init-requires-clause-typed : goal.table_init-requires-clause-typed
+table_init-requires-clause-typed c = (find.table_init_finds c.args.store.now c.args.self.now c.in-TableInit.elem c.in-TableInit.table (find.as_is c.args.store.now c.args.instr (p.TableInit c.in-TableInit.elem c.in-TableInit.table) c.args.self.now c.in-TableInit.is c.requires)).typed
+
+pub table_init-requires-clause-tops : goal.table_init-requires-clause-tops
+table_init-requires-clause-tops c = (find.table_init_finds c.args.store.now c.args.self.now c.in-TableInit.elem c.in-TableInit.table (find.as_is c.args.store.now c.args.instr (p.TableInit c.in-TableInit.elem c.in-TableInit.table) c.args.self.now c.in-TableInit.is c.requires)).tops
+
+pub table_copy-requires-clause-there : goal.table_copy-requires-clause-there
+table_copy-requires-clause-there c = (find.table_copy_finds c.args.store.now c.args.self.now c.in-TableCopy.to c.in-TableCopy.from (find.as_is c.args.store.now c.args.instr (p.TableCopy c.in-TableCopy.to c.in-TableCopy.from) c.args.self.now c.in-TableCopy.is c.requires)).there
+
+pub table_copy-requires-clause-there_from : goal.table_copy-requires-clause-there_from
+table_copy-requires-clause-there_from c = (find.table_copy_finds c.args.store.now c.args.self.now c.in-TableCopy.to c.in-TableCopy.from (find.as_is c.args.store.now c.args.instr (p.TableCopy c.in-TableCopy.to c.in-TableCopy.from) c.args.self.now c.in-TableCopy.is c.requires)).there_from
+
+pub table_copy-requires-clause-same : goal.table_copy-requires-clause-same
+table_copy-requires-clause-same c = (find.table_copy_finds c.args.store.now c.args.self.now c.in-TableCopy.to c.in-TableCopy.from (find.as_is c.args.store.now c.args.instr (p.TableCopy c.in-TableCopy.to c.in-TableCopy.from) c.args.self.now c.in-TableCopy.is c.requires)).same
+
+pub table_copy-requires-clause-tops : goal.table_copy-requires-clause-tops
+table_copy-requires-clause-tops c = (find.table_copy_finds c.args.store.now c.args.self.now c.in-TableCopy.to c.in-TableCopy.from (find.as_is c.args.store.now c.args.instr (p.TableCopy c.in-TableCopy.to c.in-TableCopy.from) c.args.self.now c.in-TableCopy.is c.requires)).tops
+
+pub returns-in-Const-clause-ends : goal.returns-in-Const-clause-ends
+returns-in-Const-clause-ends c = find.ends_goes c.args.store.now c.args.instr (p.Const c.in-Const.number) c.args.self.now c.constant.new.self c.in-Const.is c.constant.ensures
+
+pub returns-in-Unary-clause-ends : goal.returns-in-Unary-clause-ends
+returns-in-Unary-clause-ends c = find.ends_goes c.args.store.now c.args.instr (p.Unary c.in-Unary.ty c.in-Unary.op) c.args.self.now c.unary.new.self c.in-Unary.is c.unary.ensures
+
+pub returns-in-Test-clause-ends : goal.returns-in-Test-clause-ends
+returns-in-Test-clause-ends c = find.ends_goes c.args.store.now c.args.instr (p.Test c.in-Test.ty) c.args.self.now c.test.new.self c.in-Test.is c.test.ensures
+
+pub returns-in-Compare-clause-ends : goal.returns-in-Compare-clause-ends
+returns-in-Compare-clause-ends c = find.ends_goes c.args.store.now c.args.instr (p.Compare c.in-Compare.ty c.in-Compare.op) c.args.self.now c.compare.new.self c.in-Compare.is c.compare.ensures
+
+pub returns-in-Convert-clause-ends : goal.returns-in-Convert-clause-ends
+returns-in-Convert-clause-ends c = find.ends_goes c.args.store.now c.args.instr (p.Convert c.in-Convert.op) c.args.self.now c.convert.new.self c.in-Convert.is c.convert.ensures
+
+pub returns-in-LocalGet-clause-ends : goal.returns-in-LocalGet-clause-ends
+returns-in-LocalGet-clause-ends c = find.ends_goes c.args.store.now c.args.instr (p.LocalGet c.in-LocalGet.x) c.args.self.now c.local_get.new.self c.in-LocalGet.is c.local_get.ensures
+
+pub returns-in-LocalSet-clause-ends : goal.returns-in-LocalSet-clause-ends
+returns-in-LocalSet-clause-ends c = find.ends_goes c.args.store.now c.args.instr (p.LocalSet c.in-LocalSet.x) c.args.self.now c.local_set.new.self c.in-LocalSet.is c.local_set.ensures
+
+pub returns-in-LocalTee-clause-ends : goal.returns-in-LocalTee-clause-ends
+returns-in-LocalTee-clause-ends c = find.ends_goes c.args.store.now c.args.instr (p.LocalTee c.in-LocalTee.x) c.args.self.now c.local_tee.new.self c.in-LocalTee.is c.local_tee.ensures
+
+pub returns-in-RefNull-clause-ends : goal.returns-in-RefNull-clause-ends
+returns-in-RefNull-clause-ends c = find.ends_goes c.args.store.now c.args.instr (p.RefNull c.in-RefNull.ty) c.args.self.now c.ref_null.new.self c.in-RefNull.is c.ref_null.ensures
+
+pub returns-in-Binary-clause-ends : goal.returns-in-Binary-clause-ends
+returns-in-Binary-clause-ends c = find.ends_either c.args.store.now c.args.instr (p.Binary c.in-Binary.ty c.in-Binary.op) c.args.self.now c.binary.new.self c.binary.result c.in-Binary.is c.binary.ensures.ok c.binary.ensures.trap

@@ -1,0 +1,13 @@
+pub mod Memories
+pub mod Performing
+pub mod Terms
+pub mod Reduction
+pub mod Charges
+pub mod View
+pub mod Fits
+pub mod Control
+pub mod Entering
+pub mod Steps
+pub mod Classes
+pub mod Stepping
+pub mod Indirect
