@@ -21,7 +21,3 @@ close_then d (also l ls) u y = with_left_then d l (close ls u) y ∙ ap (left_th
 -- an expression that is read is its level and its last operand
 pub expr_of_then : (d : ℕ) (l : Level) (u : Postfix) (y : List Printed) → chain_then d (expr_of l u) y ≡ level_then d l (postfix_then (within l d) u y)
 expr_of_then d (level ls ps) u y = close_then d ls (wrap ps (postfix u)) y ∙ ap (lefts_then d ls) (wrap_then d ps (postfix u) y)
-
-pub fresh_then : (n d : ℕ) (y : List Printed) → lefts_then d (fresh_lefts n) y ≡ y
-fresh_then zero d y = refl
-fresh_then (suc n) d y = fresh_then n d y

@@ -177,6 +177,3 @@ differs c k h = grind (arith, nat_tests)
 pub slash_class : (c d : ℕ) → c ≡ 47 → ¬ (d ≡ 47) → ¬ (d ≡ 42) → class_of c d ≡ marked
 unfolding unicode_ident
 slash_class c d e p q = rw (e, differs d 47 p, differs d 42 q) refl
-
-pub other_class : (c d : ℕ) → is_name_start c ≡ false → is_digit c 10 ≡ false → is_space c ≡ false → is_line_end c ≡ false → is_quote c ≡ false → ¬ (c ≡ 47) → class_of c d ≡ marked
-other_class c d n g s l q h = let z = differs c 47 h in rw (n, g, s, l, q, z) refl

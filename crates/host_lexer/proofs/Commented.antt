@@ -71,14 +71,6 @@ never_ends xs at l h inside rest e g =
     let n = ap length e in let m = length-append inside (42 ∷ 47 ∷ rest) in
     h (length inside) (omega (arith, n, m)) (subst (λ y. get_or y (length inside) 0 ≡ 42) e (there inside rest)) (subst (λ y. get_or y (suc (length inside)) 0 ≡ 47) e (there_next inside rest))
 
-pub no_end_more : (xs : List ℕ) (at a : ℕ) → at < length xs → ((k : ℕ) → k < at → get_or xs k 0 ≡ 42 → get_or xs (suc k) 0 ≡ 47 → ⊥)
-    → (get_or xs at 0 ≡ 42 → get_or xs (at + 1) 0 ≡ 47 → ⊥) → (k : ℕ) → k < at + 1 → get_or xs k 0 ≡ 42 → get_or xs (suc k) 0 ≡ 47 → ⊥
-no_end_more xs at a l h last k lt p q = on (nat_lt k at) refl
-  where
-    on : (b : Bool) → nat_lt k at ≡ b → ⊥
-    on true e = h k (grind (arith, nat_tests)) p q
-    on false e = let j : k ≡ at = grind (arith, nat_tests) in let s : suc k ≡ at + 1 = omega (arith, j) in last (subst (λ n. get_or xs n 0 ≡ 42) j p) (subst (λ n. get_or xs n 0 ≡ 47) s q)
-
 -- `/*`
 pub no_block : (xs : List ℕ) → (r : List ℕ) × (xs ≡ 47 ∷ 42 ∷ r) → NeverEnds (take (length xs - 2) (drop 2 xs)) → EndsAt xs no_token
 unfolding unicode_ident

@@ -118,11 +118,6 @@ line_end_reads (x ∷ xs) c lt g h = record {
   size = refl;
 }
 
-pub two_there : (xs : List ℕ) (c a b : ℕ) → 0 < length xs → c ≡ get_or xs 0 c → c ≡ a → get_or xs 1 0 ≡ b → ¬ (0 ≡ b) → (r : List ℕ) × (xs ≡ a ∷ b ∷ r)
-two_there [] c a b lt g e f z = absurd (omega arith)
-two_there (x ∷ []) c a b lt g e f z = absurd (z f)
-two_there (x ∷ y ∷ ys) c a b lt g e f z = (ys, ap (λ k. k ∷ y ∷ ys) (sym g ∙ e) ∙ ap (λ k. a ∷ k ∷ ys) f)
-
 -- bytes
 pub size_append : (xs ys : List ℕ) → size_of (xs ++ ys) ≡ size_of xs + size_of ys
 size_append xs ys = ap length (encodes-append xs ys) ∙ length-append (encode_utf8_all xs) (encode_utf8_all ys)
@@ -135,6 +130,3 @@ size_more xs i x lt g = ap length (bytes_more xs i x lt g) ∙ length-append (en
 
 pub size_front : (xs : List ℕ) (i : ℕ) → size_of (take i xs) ≤ size_of xs
 size_front xs i = let p = size_append (take i xs) (drop i xs) in let q = ap size_of (take-append-drop i xs) in omega (arith, p, q)
-
-pub size_back : (xs : List ℕ) (i : ℕ) → size_of (take i xs) + size_of (drop i xs) ≡ size_of xs
-size_back xs i = sym (size_append (take i xs) (drop i xs)) ∙ ap size_of (take-append-drop i xs)

@@ -85,13 +85,6 @@ no_x xs g k (d, rest, e) is n (decimal (a ∷ [])) s h small = let q : a ∷ [] 
 no_x xs g k (d, rest, e) is n (decimal (a ∷ b ∷ ds)) s h small = h.0 (let q : a ∷ b ∷ ds ≡ 48 ∷ d ∷ rest = s ∙ e in cc)
 no_x xs g k (d, rest, e) is n (hexadecimal ds) s h small = n (is ∙ ap (λ x. get_or x 1 k) (sym s))
 
-pub no_hex : (xs : List ℕ) (g : ℕ) → (d : ℕ) × (rest : List ℕ) × (xs ≡ 48 ∷ d ∷ rest) → length xs ≡ 2 → NoNumeral xs g
-no_hex xs g (d, rest, e) l (decimal []) s h small = h
-no_hex xs g (d, rest, e) l (decimal (a ∷ [])) s h small = let q : a ∷ [] ≡ 48 ∷ d ∷ rest = s ∙ e in cc
-no_hex xs g (d, rest, e) l (decimal (a ∷ b ∷ ds)) s h small = h.0 (let q : a ∷ b ∷ ds ≡ 48 ∷ d ∷ rest = s ∙ e in cc)
-no_hex xs g (d, rest, e) l (hexadecimal []) s h small = h.0 refl
-no_hex xs g (d, rest, e) l (hexadecimal (a ∷ ds)) s h small = let q : length (48 ∷ 120 ∷ a ∷ ds) ≡ length xs = ap length s in omega (arith, q, l)
-
 pub as_hexadecimal : (xs : List ℕ) (g k : ℕ) (r : Option ℕ) → (d : ℕ) × (rest : List ℕ) × (xs ≡ 48 ∷ d ∷ rest) → k ≡ get_or xs 1 k → k ≡ 120 → ¬ (length xs ≡ 2)
     → MatchOption r (¬ AreDigitsUpTo 16 g (take (length xs - 2) (drop 2 xs))) (λ v. v ≡ value_in 16 (take (length xs - 2) (drop 2 xs)))
     → MatchOption r (Unit {0}) (λ v. AreDigitsUpTo 16 g (take (length xs - 2) (drop 2 xs)))
@@ -141,25 +134,11 @@ split_last xs lt =
     let r : take (length xs) xs ≡ xs = take_all (length xs) xs (omega arith) in
     sym r ∙ ap (λ n. take n xs) (sym j) ∙ take_more xs (length xs - 1) 0 k
 
-pub ends_in_n : (xs : List ℕ) (k : ℕ) → 0 < length xs → k ≡ get_or xs (length xs - 1) k → k ≡ 110 → (ds : List ℕ) × (xs ≡ ds ++ 110 ∷ [])
-ends_in_n xs k lt g e =
-    let lt' : length xs - 1 < length xs = omega arith in
-    (take (length xs - 1) xs, split_last xs lt ∙ ap (λ c. take (length xs - 1) xs ++ c ∷ []) (at_default xs (length xs - 1) 0 k lt' ∙ sym g ∙ e))
-
 pub before_n : (xs : List ℕ) → (ds : List ℕ) × (xs ≡ ds ++ 110 ∷ []) → xs ≡ take (length xs - 1) xs ++ 110 ∷ []
 before_n xs (ds, e) =
     let n : length xs ≡ length ds + 1 = ap length e ∙ length-append ds (110 ∷ []) in
     let lt : 0 < length xs = omega (arith, n) in
     split_last xs lt ∙ ap (λ c. take (length xs - 1) xs ++ c ∷ []) (subst (λ y. get_or y (length y - 1) 0 ≡ 110) (sym e) (last_is ds))
-
-pub no_lone_n : (xs : List ℕ) → (ds : List ℕ) × (xs ≡ ds ++ 110 ∷ []) → length xs - 1 ≡ 0 → NoNumber xs
-no_lone_n xs p l (whole m) s h = has_n p.0 (subst (All (λ c. (c == 110) ≡ false)) (s ∙ p.1) (numeral_no_n m h.0))
-no_lone_n xs p l (big m) s h = on m h.0 (let q : length (numeral_chars m ++ 110 ∷ []) ≡ length xs = ap length s in omega (arith, q, l, length-append (numeral_chars m) (110 ∷ [])))
-  where
-    on : (m : Numeral) → IsNumeral m → length (numeral_chars m) ≡ 0 → ⊥
-    on (decimal []) h l = h
-    on (decimal (d ∷ ds)) h l = omega (arith, l)
-    on (hexadecimal ds) h l = omega (arith, l)
 
 pub no_big_int : (xs : List ℕ) → (ds : List ℕ) × (xs ≡ ds ++ 110 ∷ []) → NoNumeral (take (length xs - 1) xs) greatest_big_int → NoNumber xs
 no_big_int xs p n (whole m) s h = has_n p.0 (subst (All (λ c. (c == 110) ≡ false)) (s ∙ p.1) (numeral_no_n m h.0))
@@ -172,10 +151,6 @@ is_big_int xs v p h = record {
   is_element = (h.is_numeral, rw h.value_is h.small);
   makes = ap (λ n. Some (kinds.BigInt n)) h.value_is;
 }
-
-pub no_whole : (xs : List ℕ) (k : ℕ) → 0 < length xs → k ≡ get_or xs (length xs - 1) k → ¬ (k ≡ 110) → NoNumeral xs greatest_number → NoNumber xs
-no_whole xs k lt g l n (whole m) s h = n m s h.0 h.1
-no_whole xs k lt g l n (big m) s h = let lt' : length xs - 1 < length xs = omega arith in l (g ∙ at_default xs (length xs - 1) k 0 lt' ∙ subst (λ y. get_or y (length y - 1) 0 ≡ 110) s (last_is (numeral_chars m)))
 
 pub is_whole : (xs : List ℕ) (v : ℕ) → HasNumeral xs greatest_number v → HasNumber xs (kinds.Number v)
 is_whole xs v h = record {

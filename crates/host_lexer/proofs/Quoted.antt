@@ -67,13 +67,6 @@ brace_other q xs n k b e l g other = brace_after q xs n b (hex_is xs n e)
 pub brace_wrong : (q : ℕ) (xs : List ℕ) (n : ℕ) → (r : List ℕ) × (xs ≡ 92 ∷ 117 ∷ 123 ∷ r) → n ≡ prefix_len is_hex (take (length xs - 3) (drop 3 xs)) → NoDigits xs 3 n → NoPiece q xs
 brace_wrong q xs n b e never = brace_after q xs n b (hex_is xs n e) (λ ds rest s t m h. never ds (125 ∷ rest) s m h.1 h.2)
 
-pub brace_none : (q : ℕ) (xs : List ℕ) (n : ℕ) → (r : List ℕ) × (xs ≡ 92 ∷ 117 ∷ 123 ∷ r) → n ≡ prefix_len is_hex (take (length xs - 3) (drop 3 xs)) → n ≡ 0 → NoPiece q xs
-brace_none q xs n b e z = brace_after q xs n b (hex_is xs n e) (λ ds rest s t m h. h.0 (nothing ds (m ∙ z)))
-  where
-    nothing : (ds : List ℕ) → length ds ≡ 0 → ds ≡ []
-    nothing [] l = refl
-    nothing (d ∷ ds) l = absurd (omega (arith, l))
-
 pub brace_piece : (q : ℕ) (xs : List ℕ) (n k code : ℕ) → (r : List ℕ) × (xs ≡ 92 ∷ 117 ∷ 123 ∷ r) → ¬ (n ≡ 0) → 3 + n < length xs → k ≡ get_or xs (3 + n) k → k ≡ 125
     → HasDigits xs 3 n code → HasPiece q xs (3 + n + 1) code
 brace_piece q xs n k code b z l g is h =

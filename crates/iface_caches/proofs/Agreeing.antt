@@ -201,9 +201,6 @@ module _ (h : HostHeap) (c : HostCaches) (k : ExternalKind) (a : ℕ) where
   later_by None = later_added c k ((a, next_object h) ∷ [])
   later_by (Some o) = later_itself c
 
-  pub later_object : IsLater c (with_object_of h k a c)
-  later_object = later_by (cached c k a)
-
 -- ---- the address of a value of the host
 
 pub later_extern : (c : HostCaches) (v : HostValue) → IsLater c (with_extern v c)
@@ -240,49 +237,3 @@ agree_extern h c v agree = record {
 }
 
 -- ---- conversions
-
-pub agree_shown : (h : HostHeap) (c : HostCaches) (v : Value) → Agree h c → Agree (heap_with c v h) (caches_with h v c)
-agree_shown h c (w.Func a) agree = agree_object h c external.Function a.0 agree
-agree_shown h c (w.I32 n) agree = agree
-agree_shown h c (w.I64 n) agree = agree
-agree_shown h c w.FuncNull agree = agree
-agree_shown h c w.ExternNull agree = agree
-agree_shown h c (w.Extern e) agree = agree
-
-pub later_shown : (h : HostHeap) (c : HostCaches) (v : Value) → IsLater c (caches_with h v c)
-later_shown h c (w.Func a) = later_object h c external.Function a.0
-later_shown h c (w.I32 n) = later_itself c
-later_shown h c (w.I64 n) = later_itself c
-later_shown h c w.FuncNull = later_itself c
-later_shown h c w.ExternNull = later_itself c
-later_shown h c (w.Extern e) = later_itself c
-
-pub agree_reference : (h : HostHeap) (c : HostCaches) (v : HostValue) → Agree h c → Agree h (with_reference v c)
-agree_reference h c values.Null agree = agree
-agree_reference h c values.Undefined agree = agree_extern h c values.Undefined agree
-agree_reference h c (values.Bool b) agree = agree_extern h c (values.Bool b) agree
-agree_reference h c (values.Number z) agree = agree_extern h c (values.Number z) agree
-agree_reference h c (values.BigInt z) agree = agree_extern h c (values.BigInt z) agree
-agree_reference h c (values.Text s) agree = agree_extern h c (values.Text s) agree
-agree_reference h c (values.Object o) agree = agree_extern h c (values.Object o) agree
-
-pub later_reference : (c : HostCaches) (v : HostValue) → IsLater c (with_reference v c)
-later_reference c values.Null = later_itself c
-later_reference c values.Undefined = later_extern c values.Undefined
-later_reference c (values.Bool b) = later_extern c (values.Bool b)
-later_reference c (values.Number z) = later_extern c (values.Number z)
-later_reference c (values.BigInt z) = later_extern c (values.BigInt z)
-later_reference c (values.Text s) = later_extern c (values.Text s)
-later_reference c (values.Object o) = later_extern c (values.Object o)
-
-pub agree_converted : (h : HostHeap) (c : HostCaches) (v : HostValue) (ty : ValType) → Agree h c → Agree h (with_converted v ty c)
-agree_converted h c v types.ExternRef agree = agree_reference h c v agree
-agree_converted h c v types.I32 agree = agree
-agree_converted h c v types.I64 agree = agree
-agree_converted h c v types.FuncRef agree = agree
-
-pub later_converted : (c : HostCaches) (v : HostValue) (ty : ValType) → IsLater c (with_converted v ty c)
-later_converted c v types.ExternRef = later_reference c v
-later_converted c v types.I32 = later_itself c
-later_converted c v types.I64 = later_itself c
-later_converted c v types.FuncRef = later_itself c

@@ -76,9 +76,6 @@ distinct_more vs x all absent m n v w at_m at_n same = by (get_pushed vs x m v a
     by (inr p) (inl q) = absurd (none_at x w vs (subst (λ u. is_strictly_equal u w ≡ true) p.1 same) absent n q)
     by (inr p) (inr q) = p.0 ∙ sym q.0
 
-pub nothing_indexed : IsIndexed [] []
-nothing_indexed = record { places = λ k. refl; distinct = λ m n v w p q same. absurd cc }
-
 -- the map after the last place went in
 places_more : (b : Bool) (x q : HostValue) (vs : List HostValue) (r : Option ℕ) → place_of x vs ≡ None → is_strictly_equal x q ≡ b → place_of q vs ≡ r
     → cond b (Some (length vs)) r ≡ place_of q (vs ++ x ∷ [])

@@ -51,15 +51,6 @@ lengths_differ (a ∷ ts) (b ∷ bs) ne = and_false (same_type a b) (same_types 
 same_more : (ts bs : List ValType) (k : ℕ) (d e : ValType) → k < length ts → k < length bs → same_types (drop k ts) (drop k bs) ≡ (same_type (get_or ts k d) (get_or bs k e) && same_types (drop (k + 1) ts) (drop (k + 1) bs))
 same_more ts bs k d e la lb = at_drop_more (λ xs. same_types xs (drop k bs)) ts k d la ∙ at_drop_more (λ ys. same_types (get_or ts k d ∷ drop (k + 1) ts) ys) bs k e lb
 
-pub same_goes : (ts bs : List ValType) (k : ℕ) (d e : ValType) (r : Bool) → k < length ts → length ts ≡ length bs → same_type (get_or ts k d) (get_or bs k e) ≡ true → same_types (drop k ts) (drop k bs) ≡ r → same_types (drop (k + 1) ts) (drop (k + 1) bs) ≡ r
-same_goes ts bs k d e r la n y h = sym (same_more ts bs k d e la (omega (arith, la, n)) ∙ ap (λ b. b && same_types (drop (k + 1) ts) (drop (k + 1) bs)) y) ∙ h
-
-pub same_stops : (ts bs : List ValType) (k : ℕ) (d e : ValType) (r : Bool) → k < length ts → length ts ≡ length bs → same_type (get_or ts k d) (get_or bs k e) ≡ false → same_types (drop k ts) (drop k bs) ≡ r → false ≡ r
-same_stops ts bs k d e r la n y h = sym (same_more ts bs k d e la (omega (arith, la, n)) ∙ ap (λ b. b && same_types (drop (k + 1) ts) (drop (k + 1) bs)) y) ∙ h
-
-pub same_ends : (ts bs : List ValType) (k : ℕ) (r : Bool) → length ts ≤ k → length ts ≡ length bs → same_types (drop k ts) (drop k bs) ≡ r → true ≡ r
-same_ends ts bs k r le n h = sym (ap (λ xs. same_types xs (drop k bs)) (drop_all k ts le) ∙ ap (same_types []) (drop_all k bs (omega (arith, le, n)))) ∙ h
-
 -- What is there.
 
 pub there : (s : Store) (v : View) (x y : ℕ) → At s (sort.CallIndirect x y) v → IsThere s x y v
@@ -73,9 +64,6 @@ there_popped s v u x y h q = subst (IsThere s x y) (sym q) (with_them s v x y u.
   where
     with_them : (s : Store) (v : View) (x y : ℕ) (us : List Value) → IsThere s x y v → IsThere s x y (with_values us v)
     with_them s v x y us h = record { «instance» = h.instance; «module» = h.module; type = h.type; type_is = h.type_is; table = h.table; table_is = h.table_is; live = h.live; elem = h.elem }
-
-pub indirect_number : (s : Store) (v : View) (x y : ℕ) → At s (sort.CallIndirect x y) v → IsNumberFirst v.top.values
-indirect_number s v x y h = indirect_first s (fetched_instr s v) v x y h.fits h.sort_is
 
 -- The rule.
 

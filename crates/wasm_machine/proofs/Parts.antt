@@ -89,9 +89,6 @@ br_if_breaks : (s : Store) (F : FrameState) (instr : Instr) (l k : ℕ) (vs us :
 br_if_breaks s F instr l zero vs us e t ne = absurd (ne refl)
 br_if_breaks s F instr l (suc k) vs us e t ne = ap (λ o. act_by s F instr o vs) e ∙ ap (branch_if s F l) t
 
-pub br_if_number : (s : Store) (v : View) (l : ℕ) → At s (sort.BrIf l) v → IsNumberFirst v.top.values
-br_if_number s v l h = br_if_first s (fetched_instr s v) (rest_of (module_for s v) v) v l h.fits h.sort_is
-
 pub br_if_can : (s : Store) (v u : View) (l k : ℕ) → At s (sort.BrIf l) v → v.top.values ≡ w.I32 k ∷ u.top.values → u ≡ with_values u.top.values v → CanBranch l u
 br_if_can s v u l k h t q = can_branch s (others s v) v u l h.fits (br_if_target s (fetched_instr s v) (rest_of (module_for s v) v) v u l k h.fits h.sort_is t) q
 
@@ -121,9 +118,6 @@ stepped_if s v u x l k e h t q ne b = record {
 
 table_breaks : (s : Store) (F : FrameState) (instr : Instr) (l k : ℕ) (vs us : List Value) → sort_of instr ≡ sort.BrTable l → vs ≡ w.I32 k ∷ us → act s F instr vs ≡ branches (slice_index_or (labels_of instr) k l) us
 table_breaks s F instr l k vs us e t = ap (λ o. act_by s F instr o vs) e ∙ ap (branch_table (labels_of instr) l) t
-
-pub table_number : (s : Store) (v : View) (l : ℕ) → At s (sort.BrTable l) v → IsNumberFirst v.top.values
-table_number s v l h = br_table_first s (fetched_instr s v) (rest_of (module_for s v) v) v l h.fits h.sort_is
 
 -- the label is chosen by the instruction that was fetched
 chosen_there : (s : Store) (v u : View) (l k j : ℕ) → u ≡ with_values u.top.values v → j ≡ chosen_label (module_for s u) u l k → j ≡ slice_index_or (labels_of (fetched_instr s v)) k l
@@ -171,9 +165,6 @@ stepped_block s v x n h o b =
       makes = begins_makes s v x instr v.top.values n.again n.ty n.body (module_here s (others s v) v h.fits) (begin_can s v n h o) (loop_is instr n h.sort_is) a b;
       fits = λ R f. begins_fits s instr v x n f h.sort_is o h.placed b;
     }
-
-pub if_number : (s : Store) (v : View) (n : Nesting) (other : BlockId) → At s (sort.Nested n) v → n.other ≡ Some other → IsNumberFirst v.top.values
-if_number s v n other h o = if_first s (fetched_instr s v) v n other h.fits h.sort_is o
 
 pub if_can : (s : Store) (v u : View) (n : Nesting) (other : BlockId) (k : ℕ) → At s (sort.Nested n) v → n.other ≡ Some other → v.top.values ≡ w.I32 k ∷ u.top.values → u ≡ with_values u.top.values v → CanBegin (module_for s u) n.ty u
 if_can s v u n other k h o t q = subst (λ (m : Module). CanBegin m n.ty u) (ap (module_for s) (sym q)) (can_begin_if s (fetched_instr s v) v u n other k h.fits h.sort_is o t q)
@@ -237,10 +228,6 @@ call_leaves : {R : List ValType} → (s : Store) (v x : View) (index : ℕ) (a :
 call_leaves s v x index a args f e g c =
     let k = call_callable s v index a f e g in
     (k.live, zip_results s (type_of (function_at s a)).params args.items (calls_arguments s (fetched_instr s v) v v x a args.items f k c), calls_waits s (fetched_instr s v) v v x a args.items f k c)
-
--- the index of a call is in its instance's list
-pub call_index_is : (s : Store) (v : View) (index : ℕ) → At s (sort.Call index) v → (a : FuncAddr) × (slice_get (instance_at s v.instance).funcs index ≡ Some a)
-call_index_is s v index h = let c = call_finds s (fetched_instr s v) v index h.fits h.sort_is in (c.0, c.1)
 
 pub within : {A : Type 0} (xs : List A) (k : ℕ) (x : A) → slice_get xs k ≡ Some x → k < length xs
 within [] k x e = cc

@@ -67,12 +67,6 @@ module _ (s : Store) (v u : View) (k : Sort) (h : Fetched s v u k) where
       let c : term_before (module_for s v) (fetched_instr s u) (advanced v) ≡ term_before (module_for s u) (fetched_instr s u) u = ap (λ z. term_before (module_for s v) (fetched_instr s u) z) (sym h.advanced_is) ∙ ap (λ n. term_before n (fetched_instr s u) u) (sym code_same) in
       subst (λ t. Makes s t e r x) (sym (b ∙ c)) m
 
-  pub went_back : (x : View) → x ≡ u → set_back x ≡ v
-  went_back x e = ap set_back (e ∙ h.advanced_is) ∙ set_same
-    where
-      set_same : set_back (advanced v) ≡ v
-      set_same = ap (λ n. record v { top = record v.top { at = n } }) (let z : v.top.at + 1 - 1 ≡ v.top.at = omega arith in z)
-
 -- an instruction of another name for its sort
 pub at_sort : (s : Store) (k j : Sort) (v : View) → k ≡ j → At s k v → At s j v
 at_sort s k j v e h = subst (λ x. At s x v) e h

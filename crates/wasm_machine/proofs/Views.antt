@@ -220,9 +220,6 @@ begun_is a m r n room body outs ws e f =
     let e2 : drop n ws ≡ [] = drop_all n ws (omega (arith, e)) in
     ap (λ os. view_of a m r n room (record { height = n; arity = r; again = None; block = body; at = 0 }) (reverse os) ws) f ∙ begun_by a m r n room body ws e1 e2
 
-pub begun_heights : (n : ℕ) (c : Control) (outs : List Control) (k : ℕ) → outs ≡ [] → c.height ≡ n → n ≡ k → Heights n (c ∷ reverse outs) k
-begun_heights n c outs k o e f = subst (λ os. Heights n (c ∷ reverse os) k) (sym o) (omega (arith, e, f), e)
-
 -- Counts.
 
 opens_long : (cs : List Control) (ws : List Value) → length (opens cs ws) ≡ length cs

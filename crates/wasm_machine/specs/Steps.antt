@@ -54,7 +54,3 @@ term_before m i v =
 pub record Performs (d : Performed) (r : Store) (old new : View) : Type 0 where
   pub acts : d ≡ performs r new.locals new.top.values
   pub rest : new ≡ with_locals new.locals (with_values new.top.values old)
-
--- after a branch to the label, counted from the innermost one, with the topmost of the frame's values, by an instruction at any values
-abbrev pub BranchesBy : Store → Module → ℕ → View → Effect → View → Type 0
-BranchesBy s m l old e new = (i : Instr) (ws : List Value) → act s (state_of old) i ws ≡ branches l old.top.values → Makes s (term_before m i (with_values ws old)) e s new
