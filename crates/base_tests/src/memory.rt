@@ -122,11 +122,20 @@ fn growth_keeps_the_bytes_and_appends_zeros(rt: HostRuntime) -> Result<(), Fail>
     Ok(())
 }
 
+/// One page more, where a memory may have it.
+fn grows(memory: &mut RawMem) -> Result<bool, Fail> {
+    if memory.len() > 1023 * PAGE {
+        return Ok(false);
+    }
+    memory.grow(1)?;
+    Ok(true)
+}
+
 #[test]
 fn a_memory_grows_page_by_page_to_its_end(rt: HostRuntime) -> Result<(), Fail> {
     let mut memory = RawMem::new(rt.alloc(), 0)?;
     for pages in 0..1024 {
-        memory.grow(1)?;
+        assert!(rt; grows(&mut memory)?);
         assert!(rt; memory.len() == (pages + 1) * PAGE);
         assert!(rt; memory.store(pages * PAGE, 8, pages));
     }
@@ -134,6 +143,7 @@ fn a_memory_grows_page_by_page_to_its_end(rt: HostRuntime) -> Result<(), Fail> {
         assert!(rt; memory.load(page * PAGE, 8) == Some(page));
         assert!(rt; memory.load(page * PAGE + PAGE - 8, 8) == Some(0));
     }
+    assert!(rt; !grows(&mut memory)?);
     Ok(())
 }
 
