@@ -10,9 +10,8 @@ import pathlib
 import subprocess
 import sys
 import tempfile
-import time
 
-from linear import LOAD, PROGRAM, module, number, section
+from linear import LOAD, PROGRAM, module, number, section, timed
 
 COUNT = 20_000
 LOW_BITS = 15
@@ -82,24 +81,6 @@ def declaring(names):
     return "".join(f"let {name} = 1;\n" for name in names)
 
 
-def timed(folder, script, bytes_of_module):
-    words = [str(PROGRAM), "run", "--steps", "1000000000"]
-    (folder / "s.js").write_text(script)
-    if bytes_of_module is not None:
-        (folder / "m.wasm").write_bytes(bytes_of_module)
-        words += ["--module", f"m={folder / 'm.wasm'}"]
-    words.append(str(folder / "s.js"))
-    best = None
-    for _ in range(3):
-        begun = time.monotonic()
-        ended = subprocess.run(words, stdout=subprocess.PIPE)
-        took = time.monotonic() - begun
-        if ended.returncode != 0:
-            sys.exit(f"the program ended with {ended.returncode}")
-        best = took if best is None else min(best, took)
-    return best
-
-
 def main():
     if not os.access(PROGRAM, os.X_OK):
         sys.exit("build the program first: ./jspirun run examples/hello.js")
@@ -110,7 +91,7 @@ def main():
             ("exports of a module", lambda names: (LOAD, exporting(names))),
             ("names of a script", lambda names: (declaring(names), None)),
         ]:
-            slow, usual = timed(folder, *made(hostile)), timed(folder, *made(plain))
+            slow, usual = timed(folder, made(hostile)), timed(folder, made(plain))
             print(f"{shape}, {COUNT} that collide: {slow * 1000:.0f} ms, {slow / usual:.2f} of the time of others")
 
 
