@@ -1,1 +1,4 @@
+pub mod Chained
 pub mod Closing
+pub mod Heads
+pub mod Sound

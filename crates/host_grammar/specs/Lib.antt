@@ -1,4 +1,5 @@
 pub mod Conditions
+pub mod Counting
 pub mod Derivations
 pub mod Machine
 pub mod Printing
