@@ -1,7 +1,9 @@
 pub mod Chained
 pub mod Closing
 pub mod Complete
+pub mod Deep
 pub mod Fine
 pub mod Heads
+pub mod Main
 pub mod Sound
 pub mod Viable

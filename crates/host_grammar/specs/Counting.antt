@@ -1,10 +1,12 @@
 -- Private: how many constructs are open with a token that opens one, in each state of the reader; elsewhere 0.
-use Rattle.std.specs.Prelude.{ℕ, suc}
+use Rattle.std.specs.Prelude.{◌≡◌, ℕ, suc, ◌<◌, ◌≤◌, List, [], ◌∷◌, take, Some, None, slice_get}
 use Rattle.host_lexer.specs.declared.token.Word.TheVariants as words
 use Rattle.host_lexer.specs.declared.token.Mark.TheVariants as marks
 use Rattle.host_lexer.specs.declared.token.TokenKind.{TokenKind}
 use Rattle.host_lexer.specs.declared.token.TokenKind.TheVariants as kinds
-use Rattle.host_grammar.specs.Machine.{OfStmt, item_of, then_of, else_of, body_of, State, want, have, argument, element, given, new_named, items, begun, complete, if_begun, while_begun, return_begun, throw_begun, try_begun, catch_begun, catch_closed, function_named, parameters_read}
+use Rattle.host_grammar.specs.Printing.{Sign, Printed}
+use Rattle.host_grammar.specs.Refusals.{most_open}
+use Rattle.host_grammar.specs.Machine.{OfStmt, item_of, then_of, else_of, body_of, State, want, have, argument, element, given, new_named, items, begun, complete, if_begun, while_begun, return_begun, throw_begun, try_begun, catch_begun, catch_closed, function_named, parameters_read, start, step, run}
 use Rattle.host_grammar.specs.Spelling.{depth, stmt_depth, item_depth, under}
 
 -- where an operand begins
@@ -63,3 +65,12 @@ opens (catch_closed w b c f n q s) t = suc (stmt_depth s)
 opens (function_named s w n) t = 1
 opens (parameters_read s w n f ps q) t = 1
 opens _ t = 0
+
+-- tokens with the constructs that they open, as a state counts them
+abbrev pub counts : State → List Sign → List Printed
+counts s [] = []
+counts s (t ∷ ts) = record { sign = t; nth = opens s t.kind } ∷ (elim (step s t) [ None ↦ [] | Some r ↦ counts r ts ])
+
+-- none of the first n tokens opens more constructs than may be open
+abbrev pub AreWithin : List Sign → ℕ → Type 0
+AreWithin ts n = (i : ℕ) (s : State) (t : Sign) → i < n → run start (take i ts) ≡ Some s → slice_get ts i ≡ Some t → opens s t.kind ≤ most_open

@@ -26,7 +26,7 @@ pub record IsTooDeep (signs : List Sign) (k : ℕ) : Type 0 where
   pub more : List Sign
   pub script : Script
   pub is_script : IsScript (take (k + 1) signs ++ more) script
-  pub opens : (p : Printed) → slice_get (script_then script []) k ≡ Some p → p.nth ≡ most_open + 1
+  pub opens : (p : Printed) → slice_get (script_then script []) k ≡ Some p → most_open < p.nth
   pub first : (i : ℕ) (p : Printed) → i < k → slice_get (script_then script []) i ≡ Some p → p.nth ≤ most_open
 
 -- a tree, an unexpected token or a construct too deep by its place, or a later declaration by its place and name
