@@ -53,6 +53,20 @@ def long_body(count):
     ])
 
 
+def wide_calls(count):
+    """A module with so many calls of a function with as many results of two types in turn, and a small one that is exported."""
+    results = bytes([0x7F, 0x7E]) * (count // 2)
+    small = bytes([0, 0x20, 0, 0x0B])
+    wide = bytes([0, 0x00, 0x0B])
+    calls = bytes([0]) + bytes([0x10, 1]) * count + bytes([0x00, 0x0B])
+    return module([
+        section(1, bytes([2, 0x60, 1, 0x7F, 1, 0x7F, 0x60, 0]) + number(len(results)) + results),
+        section(3, bytes([3, 0, 1, 0])),
+        section(7, bytes([1, 1]) + b"f" + bytes([0, 0])),
+        section(10, bytes([3]) + b"".join(number(len(body)) + body for body in (small, wide, calls))),
+    ])
+
+
 LOAD = 'let f = new WebAssembly.Instance(new WebAssembly.Module(readbuffer("m"))).exports.f;\nprint(f(1));\n'
 
 
@@ -80,6 +94,10 @@ def one_long_body(count):
     return LOAD, long_body(count)
 
 
+def calls_of_a_wide_type(count):
+    return LOAD, wide_calls(count)
+
+
 SHAPES = [
     ("statements that print", prints, 10_000),
     ("declarations", names, 10_000),
@@ -87,6 +105,7 @@ SHAPES = [
     ("one long text", a_text, 10_000),
     ("a module of many functions", many_functions, 100_000),
     ("a module of one long body", one_long_body, 500_000),
+    ("a module of calls of a wide type", calls_of_a_wide_type, 8_000),
 ]
 
 

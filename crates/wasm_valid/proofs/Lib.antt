@@ -1,4 +1,5 @@
 mod Cases
+pub mod RunLaws
 pub mod PileLaws
 pub mod LocalLaws
 pub mod LabelLaws

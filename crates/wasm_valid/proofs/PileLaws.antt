@@ -1,10 +1,9 @@
 -- Laws of lists whose topmost element is the last one.
-use Rattle.std.proofs.Common.{◌≡◌, ℕ, ◌+◌, ◌-◌, ◌<◌, ◌≤◌, Bool, true, false, ◌&&◌, List, [], ◌∷◌, ◌++◌, Option, Some, length, reverse, take, drop, get_or, refl, sym, ◌∙◌, ap, subst, is_some, arith, nat_eq, eq-eqb}
+use Rattle.std.proofs.Common.{◌≡◌, ℕ, ◌+◌, ◌-◌, ◌<◌, ◌≤◌, Bool, true, false, ◌&&◌, List, [], ◌∷◌, ◌++◌, Option, Some, length, reverse, map, take, drop, get_or, refl, sym, ◌∙◌, ap, subst, arith, nat_eq, eq-eqb}
 use Rattle.std.proofs.lemmas.Bool.{ne_eqb}
-use Rattle.std.proofs.lemmas.List.{take_more, reverse-append, length-reverse, length-take, length-take-le, length-drop, drop-append-le, take-append-drop, take_at, drop_at, take_all as take_whole, drop_all}
+use Rattle.std.proofs.lemmas.List.{take_more, reverse-append, map-append, length-reverse, length-take-le, length-drop, drop-append-le, take-append-drop, take_at, drop_at, take_all as take_whole}
 use Rattle.wasm_syntax.specs.declared.types.ValType.{ValType}
-use Rattle.wasm_valid.specs.Spaces.{when, then_}
-use Rattle.wasm_valid.specs.Operands.{Operands, take_all, fits, anything, is_empty}
+use Rattle.wasm_valid.specs.Operands.{Operands, take_all, anything, put, is_empty}
 use Rattle.wasm_valid.specs.Piles.{Pile, pile_of, is_anything}
 
 -- one more element on top
@@ -94,28 +93,19 @@ pub anything_is : (list : List (Option ValType)) (base : ℕ) (any : Bool) (p : 
 anything_is list base any p n view stands len =
     ap (λ b. any && b) (spent_is list base any p n view stands len) ∙ ap (λ b. b && is_empty p.own.types) (ap (λ (x : Pile). x.own.any) view)
 
--- types that are left where no operands are
-pub no_more : (types : List ValType) (left : ℕ) (d : ValType) (list : List (Option ValType)) (base at : ℕ) (any : Bool)
-    → 0 < left → left ≤ length types → at ≤ base
-    → is_some (take_all (reverse (take left types)) (record { types = reverse (drop base (take at list)); any = any })) ≡ any
-no_more types left d list base at any p q h =
-    let none_left : drop base (take at list) ≡ [] = drop_all base (take at list) (omega (arith, length-take at list)) in
-    let P : List ValType → Type 0 = λ ts. is_some (take_all ts (record { types = reverse (drop base (take at list)); any = any })) ≡ any in
-    subst P (sym (reverse_more types left d p q))
-    (let Q : List (Option ValType) → Type 0 = λ us. is_some (take_all (get_or types (left - 1) d ∷ reverse (take (left - 1) types)) (record { types = reverse us; any = any })) ≡ any in
-    subst Q (sym none_left) (by_mark any))
-  where
-    by_mark : (any : Bool) → is_some (take_all (get_or types (left - 1) d ∷ reverse (take (left - 1) types)) (record { types = []; any = any })) ≡ any
-    by_mark true = ap is_some (take_all-anything (reverse (take (left - 1) types)))
-    by_mark false = refl
+-- types that are turned round
+pub reverse-map : (ts : List ValType) → reverse (map {B = Option ValType} Some ts) ≡ map Some (reverse ts)
+reverse-map [] = refl
+reverse-map (t ∷ ts) =
+    reverse-append (Some t ∷ []) (map Some ts) ∙ ap (λ (us : List (Option ValType)). us ++ Some t ∷ []) (reverse-map ts)
+    ∙ sym (ap (map Some) (reverse-append (t ∷ []) ts) ∙ map-append Some (reverse ts) (t ∷ []))
 
--- one type less and one operand less
-pub one_less : (types : List ValType) (left : ℕ) (d : ValType) (list : List (Option ValType)) (base at : ℕ) (any : Bool) (x : Option ValType)
-    → 0 < left → left ≤ length types → base < at → at ≤ length list → x ≡ get_or list (at - 1) x → fits (get_or types (left - 1) d) x ≡ true
-    → is_some (take_all (reverse (take left types)) (record { types = reverse (drop base (take at list)); any = any }))
-    ≡ is_some (take_all (reverse (take (left - 1) types)) (record { types = reverse (drop base (take (at - 1) list)); any = any }))
-one_less types left d list base at any x p q h k e f =
-    ap (λ ts. is_some (take_all ts (record { types = reverse (drop base (take at list)); any = any }))) (reverse_more types left d p q)
-    ∙ ap (λ us. is_some (take_all (get_or types (left - 1) d ∷ reverse (take (left - 1) types)) (record { types = us; any = any }))) (reverse_above list base at x h k)
-    ∙ ap (λ y. is_some (take_all (get_or types (left - 1) d ∷ reverse (take (left - 1) types)) (record { types = y ∷ reverse (drop base (take (at - 1) list)); any = any }))) (sym e)
-    ∙ ap (λ b. is_some (then_ (when b (Some (record { types = reverse (drop base (take (at - 1) list)); any = any }))) (take_all (reverse (take (left - 1) types))))) f
+-- operands of these types on top
+pub types_on_top : (list new : List (Option ValType)) (base : ℕ) (any : Bool) (p : Pile) (ts : List ValType)
+    → pile_of list base any ≡ p → base ≤ length list → new ≡ list ++ map Some ts → record { types = reverse (drop base new); any = any } ≡ put (map Some (reverse ts)) p.own
+types_on_top list new base any p ts view stands e =
+    let P : Pile → Type 0 = λ p. record { types = reverse (drop base new); any = any } ≡ put (map Some (reverse ts)) p.own in
+    subst P view
+    (ap (λ us. record { types = us; any = any })
+    (ap (λ xs. reverse (drop base xs)) e ∙ ap reverse (drop-append-le base list (map Some ts) stands) ∙ reverse-append (drop base list) (map Some ts)
+    ∙ ap (λ us. us ++ reverse (drop base list)) (reverse-map ts)))

@@ -1,6 +1,8 @@
 pub mod Spaces
 pub mod Operands
 pub mod Piles
+pub mod Runs
+pub mod Numbers
 pub mod Signatures
 pub mod Views
 pub mod Places

@@ -29,7 +29,10 @@ fn branch(operands: &mut OperandList, label: Option<&[ValType]>) -> bool
     }
 }
 
-fn branch_if(operands: &mut OperandList, label: Option<&[ValType]>) -> Result<bool, AllocError>
+fn branch_if<'a>(
+    operands: &mut OperandList<'a>,
+    label: Option<&'a [ValType]>,
+) -> Result<bool, AllocError>
     ensures own { IfOk result (λ fine. Becomes (branches_if (option_copied label.entry) operands.old.own) fine operands.new.own) }
     ensures under { operands.new.under ≡ operands.old.under }
 {
@@ -110,7 +113,7 @@ fn branch_table(
     }
 }
 
-fn call(operands: &mut OperandList, ty: Option<&FuncType>) -> Result<bool, AllocError>
+fn call<'a>(operands: &mut OperandList<'a>, ty: Option<&'a FuncType>) -> Result<bool, AllocError>
     ensures own { IfOk result (λ fine. Becomes (then_ (option_copied ty.entry) (λ g. calls g operands.old.own)) fine operands.new.own) }
     ensures under { operands.new.under ≡ operands.old.under }
 {
@@ -140,10 +143,10 @@ fn is_of_functions(table: Option<TableType>) -> bool
     }
 }
 
-fn call_indirect(
-    operands: &mut OperandList,
+fn call_indirect<'a>(
+    operands: &mut OperandList<'a>,
     table: Option<TableType>,
-    ty: Option<&FuncType>,
+    ty: Option<&'a FuncType>,
 ) -> Result<bool, AllocError>
     ensures own { IfOk result (λ fine. Becomes (calls_indirect table (option_copied ty.entry) operands.old.own) fine operands.new.own) }
     ensures under { operands.new.under ≡ operands.old.under }
@@ -260,10 +263,10 @@ fn is_reference_operand(operand: Option<ValType>) -> bool
 }
 
 /// Passes an instruction of this sort, which holds no blocks: changes the operands as its type says, or tells that it isn't typed.
-pub fn pass_flat(
-    operands: &mut OperandList,
+pub fn pass_flat<'a>(
+    operands: &mut OperandList<'a>,
     opens: &Opens,
-    module: &Module,
+    module: &'a Module,
     spaces: &Spaces,
     locals: &Locals,
     results: Types,

@@ -9,6 +9,7 @@ mod opens;
 mod operands;
 mod pass;
 mod rules;
+mod runs;
 mod signature;
 mod spaces;
 mod types;

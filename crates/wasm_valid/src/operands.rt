@@ -5,6 +5,7 @@ ghost use Rattle.wasm_valid.specs.Operands.{take_any, take_one, take_all, put, e
 ghost use Rattle.wasm_valid.specs.Piles.{Becomes, is_anything};
 ghost use Rattle.wasm_valid.specs.Signatures.{takes_of};
 
+use crate::runs::Runs;
 use crate::signature::{Signature, Takes};
 use std::alloc::{AllocError, Global};
 use std::marker::Model;
@@ -13,8 +14,8 @@ use wasm_syntax::ValType;
 /// The types of the operands of all open blocks. None is an operand that fits every type. Those from `base` on belong to the
 /// innermost block, and `any` tells whether anything may stand below these.
 #[derive(Drop)]
-pub struct OperandList {
-    list: Vec<Option<ValType>>,
+pub struct OperandList<'a> {
+    list: Runs<'a>,
     base: usize,
     any: bool,
 }
@@ -26,15 +27,15 @@ pub struct Saved {
     pub any: bool,
 }
 
-impl Model for OperandList {
+impl<'a> Model for OperandList<'a> {
     ghost use Rattle.std.specs.Prelude.{◌≤◌, length};
     ghost use Rattle.wasm_valid.specs.Piles.{Pile, pile_of};
 
     ghost Value = { Pile };
 
-    ghost view = { λ o. pile_of o.list.items o.base o.any };
+    ghost view = { λ o. pile_of o.list o.base o.any };
 
-    ghost invariant = { λ o. o.base ≤ length o.list.items };
+    ghost invariant = { λ o. o.base ≤ length o.list };
 }
 
 /// Whether an operand may be used as one of this type.
@@ -47,13 +48,13 @@ pub fn type_fits(ty: ValType, operand: Option<ValType>) -> bool
     }
 }
 
-impl OperandList {
+impl<'a> OperandList<'a> {
     /// The operands at the start of a body: none.
-    pub fn new(alloc: Global) -> OperandList
+    pub fn new(alloc: Global) -> OperandList<'a>
         ensures { result ≡ record { own = exactly []; under = [] } }
     {
         OperandList {
-            list: Vec::new(alloc),
+            list: Runs::new(alloc),
             base: 0,
             any: false,
         }
@@ -126,13 +127,11 @@ impl OperandList {
     }
 
     /// Puts operands of these types on top, in their order.
-    pub fn push_types(&mut self, types: &[ValType]) -> Result<(), AllocError>
+    pub fn push_types(&mut self, types: &'a [ValType]) -> Result<(), AllocError>
         ensures own { OnOk result (self.new.own ≡ put (map Some (reverse types.now)) self.old.own) }
         ensures under { self.new.under ≡ self.old.under }
     {
-        for ty in types {
-            self.push(Some(*ty))?;
-        }
+        self.list.push_types(types)?;
         Ok(())
     }
 
@@ -140,26 +139,14 @@ impl OperandList {
     pub fn has_types(&self, types: &[ValType]) -> bool
         ensures { result ≡ is_some (take_all (reverse types.now) self.now.own) }
     {
-        let mut left = types.len();
-        let mut at = self.list.len();
-        while left > 0 {
-            if at <= self.base {
-                return self.any;
-            }
-            left -= 1;
-            at -= 1;
-            if !type_fits(types[left], self.list[at]) {
-                return false;
-            }
-        }
-        true
+        self.list.has_types(self.base, self.any, types)
     }
 
     /// Takes operands of these types and puts operands of those, each in their order.
     pub fn exchange_types(
         &mut self,
         takes: &[ValType],
-        gives: &[ValType],
+        gives: &'a [ValType],
     ) -> Result<bool, AllocError>
         ensures own { IfOk result (λ fine. Becomes (exchange (reverse takes.now) (reverse gives.now) self.old.own) fine self.new.own) }
         ensures under { self.new.under ≡ self.old.under }
@@ -193,7 +180,7 @@ impl OperandList {
     }
 
     /// Opens a block that begins with operands of these types. The operands that are there stay below it.
-    pub fn open(&mut self, types: &[ValType]) -> Result<Saved, AllocError>
+    pub fn open(&mut self, types: &'a [ValType]) -> Result<Saved, AllocError>
         ensures own { OnOk result (self.new.own ≡ exactly types.now) }
         ensures under { OnOk result (self.new.under ≡ self.old.own.types ++ self.old.under) }
         ensures saved { IfOk result (λ saved. (saved.base ≡ length self.old.under) × (saved.any ≡ self.old.own.any)) }
@@ -209,7 +196,7 @@ impl OperandList {
     }
 
     /// Begins the innermost block again, with operands of these types.
-    pub fn begin(&mut self, types: &[ValType]) -> Result<(), AllocError>
+    pub fn begin(&mut self, types: &'a [ValType]) -> Result<(), AllocError>
         ensures own { OnOk result (self.new.own ≡ exactly types.now) }
         ensures under { self.new.under ≡ self.old.under }
     {

@@ -90,14 +90,14 @@ fn went(fine: bool) -> Step
 
 /// Where the pass stands.
 #[derive(Drop)]
-struct Pass {
-    operands: OperandList,
+struct Pass<'a> {
+    operands: OperandList<'a>,
     opens: Opens,
     /// The greatest number of operands so far.
     highest: usize,
 }
 
-impl Pass {
+impl<'a> Pass<'a> {
     /// Takes the test of an `if`.
     fn take_test(&mut self, other: Option<BlockId>) -> bool
         ensures own { Becomes (tested other self.old.operands.own) result self.new.operands.own }
@@ -112,7 +112,7 @@ impl Pass {
     }
 
     /// Begins the block that the next instruction holds.
-    fn open_block(&mut self, module: &Module, nesting: Nesting) -> Result<bool, AllocError>
+    fn open_block(&mut self, module: &'a Module, nesting: Nesting) -> Result<bool, AllocError>
         requires place { IsPlace (place_of self.old.operands self.old.opens) }
         requires at { NestsAt «module».now self.old.opens.top nesting }
         requires fits { self.old.opens.top.at + 1 < 2 ^ 64 }
@@ -143,7 +143,7 @@ impl Pass {
     /// Passes the next instruction, which holds no blocks.
     fn go_flat(
         &mut self,
-        module: &Module,
+        module: &'a Module,
         spaces: &Spaces,
         locals: &Locals,
         results: Types,
@@ -175,7 +175,7 @@ impl Pass {
     }
 
     /// Begins the second block of an `if`, whose first one has ended.
-    fn begin_second(&mut self, module: &Module, second: BlockId) -> Result<(), AllocError>
+    fn begin_second(&mut self, module: &'a Module, second: BlockId) -> Result<(), AllocError>
         ensures own { OnOk result (self.new.operands.own ≡ exactly (types_in «module».now self.old.opens.top.params)) }
         ensures under { self.new.operands.under ≡ self.old.operands.under }
         ensures top { OnOk result (self.new.opens.top ≡ record self.old.opens.top { block = second; at = 0; second = None }) }
@@ -191,7 +191,7 @@ impl Pass {
     }
 
     /// Goes back to the block round the innermost one, which has ended with its results, or ends the body.
-    fn close_block(&mut self, module: &Module) -> Result<Step, AllocError>
+    fn close_block(&mut self, module: &'a Module) -> Result<Step, AllocError>
         requires place { IsPlace (place_of self.old.operands self.old.opens) }
         requires spent { self.old.operands.own.types ≡ [] }
         ensures closed { IfOk result (λ step. Closes «module».now (place_of self.old.operands self.old.opens) self.old.highest step (place_of self.new.operands self.new.opens) self.new.highest) }
@@ -212,7 +212,7 @@ impl Pass {
     }
 
     /// Ends the innermost block.
-    fn end_block(&mut self, module: &Module) -> Result<Step, AllocError>
+    fn end_block(&mut self, module: &'a Module) -> Result<Step, AllocError>
         requires place { IsPlace (place_of self.old.operands self.old.opens) }
         requires at { rest_of «module».now self.old.opens.top ≡ [] }
         requires counted { length self.old.operands.own.types + length self.old.operands.under ≤ self.old.highest }
@@ -249,7 +249,7 @@ impl Pass {
     /// Passes the next instruction, or ends the innermost block.
     fn step(
         &mut self,
-        module: &Module,
+        module: &'a Module,
         spaces: &Spaces,
         locals: &Locals,
         results: Types,
