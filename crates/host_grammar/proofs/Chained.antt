@@ -1,5 +1,4 @@
 -- A chain of operators is read, and closing what was read gives it again.
--- exclude: Refusals:opens
 use Rattle.std.specs.Prelude.{◌≡◌, ℕ, zero, suc, ◌<◌, List, [], ◌∷◌, Option, Some, None, refl}
 use Rattle.std.proofs.Common.{◌∙◌, ap, arith}
 use Rattle.host_lexer.specs.declared.token.Mark.{Mark}

@@ -1,5 +1,4 @@
 -- The machine reads what a derivation spells.
--- exclude: Refusals:opens
 use Rattle.std.specs.Prelude.{◌≡◌, ℕ, suc, List, [], ◌∷◌, Some, None, Bool, true, false, cond, refl}
 use Rattle.std.proofs.Common.{◌∙◌, ap}
 use Rattle.host_lexer.specs.declared.token.Word.TheVariants as words

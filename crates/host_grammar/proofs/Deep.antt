@@ -1,5 +1,4 @@
 -- The first token that opens more constructs than may be open, as the machine counts them.
--- exclude: Refusals:opens Refusals:first
 use Rattle.std.specs.Prelude.{◌≡◌, ℕ, zero, suc, ◌+◌, ◌<◌, ◌≤◌, List, [], ◌∷◌, ◌++◌, length, take, drop, Option, Some, None, refl, slice_get}
 use Rattle.std.proofs.Common.{sym, ◌∙◌, ap, subst, ◌⊎◌, inl, inr, arith}
 use Rattle.host_grammar.specs.Derivations.{Script, more}
@@ -10,9 +9,9 @@ use Rattle.host_grammar.specs.Machine.{State, run, start, step}
 use Rattle.host_grammar.specs.Spelling.{within}
 use Rattle.host_grammar.specs.Counting.{AreWithin, counts, opens}
 use Rattle.host_grammar.proofs.Main.{begins_reached, counted, reached_begins, run_next}
-use Rattle.std.proofs.lemmas.Option.{slice_get_within, slice_get_past} -- keep
-use Rattle.std.proofs.lemmas.Bool.{cases_lt} -- keep
-use Rattle.std.proofs.lemmas.List.{take-append-drop} -- keep
+use Rattle.std.proofs.lemmas.Option.{slice_get_within, slice_get_past}
+use Rattle.std.proofs.lemmas.Bool.{cases_lt}
+use Rattle.std.proofs.lemmas.List.{take-append-drop}
 
 past : {X : Type 0} (i : ℕ) (x : X) → slice_get {X = X} [] i ≡ Some x → ⊥
 past {X} i x h = let e : None ≡ Some x = sym (slice_get_past {X = X} [] i (omega arith)) ∙ h in absurd cc

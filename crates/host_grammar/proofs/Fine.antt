@@ -1,5 +1,4 @@
 -- What is kept in a state meets the conditions beside the productions.
--- exclude: Refusals:opens Refusals:first Conditions:sign
 use Rattle.std.specs.Prelude.{◌≡◌, ℕ, List, [], ◌∷◌, Option, Some, None, Bool, true, false, cond, refl}
 use Rattle.std.proofs.Common.{sym, ◌∙◌, ap, subst, ◌⊎◌, inl, inr}
 use Rattle.host_lexer.specs.declared.token.Word.TheVariants as words

@@ -1,5 +1,4 @@
 -- The first token of a part, and what it leads to.
--- exclude: Refusals:opens Refusals:first
 use Rattle.std.specs.Prelude.{◌≡◌, ℕ, List, [], ◌∷◌, Option, Some, None, Bool, true, false, cond, refl}
 use Rattle.std.proofs.Common.{sym, ap, subst}
 use Rattle.host_lexer.specs.declared.token.Word.TheVariants as words

@@ -1,5 +1,4 @@
 -- The machine accepts the scripts and no others, and refuses at the least place.
--- exclude: Refusals:opens Refusals:first
 use Rattle.std.specs.Prelude.{◌≡◌, ℕ, ◌+◌, ◌<◌, List, [], ◌∷◌, ◌++◌, length, take, map, Option, Some, None, refl, slice_get}
 use Rattle.std.proofs.Common.{sym, ◌∙◌, ap, subst, arith}
 use Rattle.host_grammar.specs.Derivations.{Script}
@@ -14,10 +13,10 @@ use Rattle.host_grammar.proofs.Fine.{Keeps, StateFine, accept_fine, moves_keep}
 use Rattle.host_grammar.proofs.Heads.{read}
 use Rattle.host_grammar.proofs.Sound.{Spells, accept_spells, moves_spell}
 use Rattle.host_grammar.proofs.Viable.{Ends, states_end}
-use Rattle.std.proofs.lemmas.List.{take_more, append-nil} -- keep
-use Rattle.std.proofs.Math.Seq.{take-length} -- keep
-use Rattle.std.proofs.lemmas.Grind.{common_steps} -- keep
-use Rattle.std.proofs.lemmas.Option.{get_or_from_slice_get, slice_get_within} -- keep
+use Rattle.std.proofs.lemmas.List.{take_more, append-nil}
+use Rattle.std.proofs.Math.Seq.{take-length}
+use Rattle.std.proofs.lemmas.Grind.{common_steps}
+use Rattle.std.proofs.lemmas.Option.{get_or_from_slice_get, slice_get_within}
 
 abbrev pub finish : Option State → Option Script
 finish None = None
@@ -155,3 +154,7 @@ unexpected_at_end ts s h a = record {
   next = λ l b. absurd (omega arith);
   ends = λ _ x i. no_script ts s x h a i
 }
+
+-- each script's tokens lead to a state that accepts it
+pub script_reached : (ts : List Sign) (x : Script) → IsScript ts x → (s : State) × (run start ts ≡ Some s) × (accept s ≡ Some x)
+script_reached ts x i = finished (run start ts) x (script_accepted ts x i)

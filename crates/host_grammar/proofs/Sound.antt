@@ -1,5 +1,4 @@
 -- What the reader has read is what its state spells, and each token opens as many constructs as are counted.
--- exclude: Conditions:sign Refusals:opens
 use Rattle.std.specs.Prelude.{◌≡◌, ℕ, zero, suc, List, [], ◌∷◌, Option, Some, None, Bool, true, false, cond, refl}
 use Rattle.std.proofs.Common.{sym, ◌∙◌, ap}
 use Rattle.host_lexer.specs.declared.token.Word.TheVariants as words

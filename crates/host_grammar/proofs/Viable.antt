@@ -1,5 +1,4 @@
 -- Each state of the machine can be completed.
--- exclude: Refusals:opens Refusals:first
 use Rattle.std.specs.Prelude.{◌≡◌, List, [], ◌∷◌, Some, false, refl}
 use Rattle.std.proofs.Common.{◌∙◌}
 use Rattle.host_lexer.specs.declared.token.Word.TheVariants as words

@@ -1,0 +1,8 @@
+use Rattle.host_grammar.proofs.Main.{reached_begins, begins_reached}
+use Rattle.host_grammar.proofs.laws.states_go_on.Goals as goal
+
+pub returns-clause-viable : goal.returns-clause-viable
+returns-clause-viable c = reached_begins
+
+pub returns-clause-reached : goal.returns-clause-reached
+returns-clause-reached c = begins_reached
