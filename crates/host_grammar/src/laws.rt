@@ -35,6 +35,7 @@ pub fn scripts_are_accepted()
 pub fn states_go_on()
     ensures viable { (signs : List Sign) (s : State) → run start signs ≡ Some s → Begins signs }
     ensures reached { (signs : List Sign) → Begins signs → (s : State) × (run start signs ≡ Some s) }
+    ensures next { (signs : List Sign) (k : ℕ) (s : State) (t : Sign) → run start (take k signs) ≡ Some s → slice_get signs k ≡ Some t → run start (take (k + 1) signs) ≡ step s t }
 {}
 
 /// A token that the reader refuses stands at the least place such that the tokens through it are a prefix of no script's; where

@@ -2,6 +2,8 @@
 use Rattle.std.specs.Prelude.{◌≡◌, ℕ, zero, suc, ◌<◌, ◌≤◌, nat_lt, Bool, true, false, cond, List, [], ◌∷◌, Option, Some, None, refl}
 use Rattle.std.proofs.Common.{sym, ◌∙◌, ap, subst, arith, ◌⊎◌, inl, inr}
 use Rattle.std.proofs.lemmas.Bool.Decides.{nat_tests}
+use Rattle.host_lexer.specs.declared.token.Token.{Token}
+use Rattle.host_grammar.specs.Printing.{seen}
 use Rattle.host_lexer.specs.declared.token.Word.TheVariants as words
 use Rattle.host_lexer.specs.declared.token.Mark.{Mark}
 use Rattle.host_lexer.specs.declared.token.Mark.TheVariants as marks
@@ -18,7 +20,7 @@ use Rattle.host_states.specs.declared.state.Move.TheVariants as moves
 use Rattle.host_states.specs.declared.reader.Reader.{Reader}
 use Rattle.host_states.specs.Moves as spec
 use Rattle.host_states.specs.Moves.{Outcome, refused, too_deep, went, Moves, opening}
-use Rattle.host_states.specs.Shapes.{shape, Follows, around, item_around, stmt_stack, item_stack, block_stack, expr_stack, level_of, is_bare, operand_at}
+use Rattle.host_states.specs.Shapes.{shape, accepts, Follows, around, item_around, stmt_stack, item_stack, block_stack, expr_stack, level_of, is_bare, operand_at}
 use Rattle.host_grammar.specs.Derivations.{Spot, Named, Any, Postfix, primary, literal, name, paren, array, object, new, member, index, call, Members, no_member, and_member, no_item, break_off, continue_on, Operator, Unary, postfix, Target, Expr, Stmt, Block, Items, Names, Params, Item, Script, statement, if_then, if_else, while_do, and_item, and_part, LetDecls, ConstDecls, Exprs, PropList}
 use Rattle.host_grammar.specs.Refusals.{most_open}
 use Rattle.host_grammar.specs.Machine as machine
@@ -415,7 +417,7 @@ moves_sim (parameter_read s w n f ns) p t = parameter_goes_on_sim s w n f ns p t
 moves_sim (parameters_read s w n f ps q) p t = mark_sim marks.OpenBrace t (items (in_block no_item (function_of s w n f ps q p))) 1 _ refl
 
 -- the tokens may end where the machine accepts
-settled_whole : (o : OfItem) (st : Stmt) → spec.is_empty (spec.settled (item_around o) (item_stack o) false).1 ≡ is_some (machine.ends st (item_of o))
+settled_whole : (o : OfItem) (st : Stmt) → spec.is_empty (spec.settled (item_around o) (item_stack o) false).1 ≡ accepts (machine.ends st (item_of o))
 settled_whole (in_script s) st = refl
 settled_whole (in_block xs (block_of f s)) st = refl
 settled_whole (in_block xs (try_of w f s)) st = refl
@@ -423,13 +425,13 @@ settled_whole (in_block xs (catch_of w b c f s)) st = refl
 settled_whole (in_block xs (catch_name_of w b c f n q g s)) st = refl
 settled_whole (in_block xs (function_of s w n f ps q g)) st = refl
 
-ends_whole : (s : OfStmt) (st : Stmt) → spec.is_empty (spec.settled (around s) (stmt_stack s) false).1 ≡ is_some (machine.ends st s)
+ends_whole : (s : OfStmt) (st : Stmt) → spec.is_empty (spec.settled (around s) (stmt_stack s) false).1 ≡ accepts (machine.ends st s)
 ends_whole (item_of o) st = settled_whole o st
 ends_whole (then_of w f e c s) st = ends_whole s (if_then w f e c st)
 ends_whole (else_of w f e c a q s) st = ends_whole s (if_else w f e c a q st)
 ends_whole (body_of w f e c s) st = ends_whole s (while_do w f e c st)
 
-pub whole_sim : (s : State) → spec.is_whole (shape s) ≡ is_some (machine.accept s)
+pub whole_sim : (s : State) → spec.is_whole (shape s) ≡ accepts (machine.accept s)
 whole_sim (items (in_script s)) = refl
 whole_sim (items (in_block xs (block_of f s))) = refl
 whole_sim (items (in_block xs (try_of w f s))) = refl
@@ -438,3 +440,7 @@ whole_sim (items (in_block xs (catch_name_of w b c f n q g s))) = refl
 whole_sim (items (in_block xs (function_of s w n f ps q g))) = refl
 whole_sim (complete st s) = ends_whole s st
 whole_sim _ = refl
+
+pub stepped : (s : State) (r : Reader) (t : Token) (m : Move) (q : Reader) → shape s ≡ r → Moves (spec.moved r t.after_line t.kind) m q → Follows (machine.step s (seen t)) (counting.opens s t.kind) m q
+stepped s r t m q h k = follows (machine.step s (seen t)) (counting.opens s t.kind) (spec.moved r t.after_line t.kind) m q
+    (subst (λ z. Sim (machine.step s (seen t)) (counting.opens s t.kind) (spec.moved z t.after_line t.kind)) h (moves_sim s (seen t).spot t.kind)) k

@@ -13,7 +13,7 @@ use Rattle.host_states.specs.declared.state.Move.{Move}
 use Rattle.host_states.specs.declared.state.Move.TheVariants as moves
 use Rattle.host_states.specs.declared.reader.Reader.{Reader}
 use Rattle.host_states.specs.Moves.{in_expression, in_statement, in_function}
-use Rattle.host_grammar.specs.Derivations.{Postfix}
+use Rattle.host_grammar.specs.Derivations.{Postfix, Script}
 use Rattle.host_grammar.specs.Refusals.{most_open}
 use Rattle.host_grammar.specs.Machine as machine
 use Rattle.host_grammar.specs.Machine.{Level, level, OfExpr, in_paren, in_index, in_call, in_array, in_new, in_prop, in_assign, in_if, in_while, in_return, in_throw, in_let, in_const, OfStmt, item_of, then_of, else_of, body_of, OfItem, in_script, in_block, OfBlock, block_of, try_of, catch_of, catch_name_of, function_of, State, want, have, dotted, argument, element, given, new_begun, new_named, new_dotted, property, named_key, other_key, items, begun, complete, if_begun, while_begun, break_begun, continue_begun, return_begun, throw_begun, try_begun, try_read, catch_begun, catch_opened, catch_named, catch_closed, let_begun, let_named, const_begun, const_named, function_begun, function_named, parameter, parameter_read, parameters_read, is_fresh, target_of}
@@ -120,6 +120,11 @@ shape (function_named s w n) = in_function heads.Named []
 shape (parameter s w n f ns) = in_function heads.Parameter []
 shape (parameter_read s w n f ns) = in_function heads.ParameterRead []
 shape (parameters_read s w n f ps t) = in_function heads.ParametersRead []
+
+-- whether the tokens may end
+abbrev pub accepts : Option Script → Bool
+accepts None = false
+accepts (Some x) = true
 
 -- what a token that opens the n-th construct, or none, leads to
 abbrev pub Follows : Option State → ℕ → Move → Reader → Type 0

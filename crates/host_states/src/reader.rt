@@ -1,6 +1,10 @@
 ghost use Rattle.std.specs.Prelude.{◌≡◌, ℕ, List, [], ◌∷◌, IfOk, Bool, true, false, cond, Option, Some, None, length};
 ghost use Rattle.host_states.specs.Moves as spec;
 ghost use Rattle.host_states.specs.Moves.{Moves};
+ghost use Rattle.host_states.specs.Shapes.{shape, accepts, Follows};
+ghost use Rattle.host_grammar.specs.Machine as machine;
+ghost use Rattle.host_grammar.specs.Counting as counting;
+ghost use Rattle.host_grammar.specs.Printing.{seen};
 ghost use Rattle.host_states.specs.Stacks.{rest_of};
 ghost use Rattle.host_states.specs.declared.state.InExpression.TheVariants as at;
 ghost use Rattle.host_states.specs.declared.state.InFunction.TheVariants as heads;
@@ -834,6 +838,39 @@ impl Reader {
             State::Statement(at, around) => self.statement_moved(at, around, after_line, kind),
             State::Function(at) => self.function_moved(at, kind),
         }
+    }
+
+    /// What a token does after those that were read. After `Refused` or `TooDeep`, or a failure, nothing is said of the reader.
+    pub fn step(&mut self, token: &Token) -> Result<Move, AllocError>
+        ensures { IfOk result (λ m. (s : machine.State) → shape s ≡ self.old → Follows (machine.step s (seen token.now)) (counting.opens s token.now.kind) m self.new) }
+    {
+        let step = self.moved(token.after_line, &token.kind)?;
+        Ok(step)
+    }
+
+    /// Whether the tokens that were read are a script's.
+    pub fn is_whole(self) -> bool
+        ensures { (s : machine.State) → shape s ≡ self → result ≡ accepts (machine.accept s) }
+    {
+        let mut reader = self;
+        reader.ends()
+    }
+
+    fn ends(&mut self) -> bool
+        ensures { result ≡ spec.is_whole self.old }
+    {
+        match self.state {
+            State::Statement(InStatement::Items, _) => self.stack.top().is_none(),
+            State::Statement(InStatement::Complete, around) => self.ends_after(around),
+            _ => false,
+        }
+    }
+
+    fn ends_after(&mut self, around: Around) -> bool
+        ensures { result ≡ spec.is_empty (spec.settled around self.old.stack false).1 }
+    {
+        let _around = self.settle(around, false);
+        self.stack.top().is_none()
     }
 }
 
