@@ -1,5 +1,4 @@
 -- A chain of operators is read, and closing what was read gives it again.
--- exclude: Refusals:opens
 use Rattle.std.specs.Prelude.{◌≡◌, ℕ, zero, suc, ◌<◌, List, [], ◌∷◌, Option, Some, None, refl}
 use Rattle.std.proofs.Common.{◌∙◌, ap, arith}
 use Rattle.host_lexer.specs.declared.token.Mark.{Mark}
@@ -177,9 +176,9 @@ pub operator : {n : ℕ} (o : Outer (suc n)) (c : Chain (suc n)) (x : Operator n
     → read (after_chain o c s) (mark (operator_mark x) p ∷ y) ≡ read (want (level (plug o (also (before c x p) (fresh_lefts n))) []) s) y
 operator {n} o c x p s y =
     let e : pushed (operator_mark x) p (last_of c) (plug o (lefts_of c)) ≡ Some (plug o (also (before c x p) (fresh_lefts n)))
-        = pushed_plug n x p (last_of c) o (lefts_of c) (omega arith) ∙ ap (option_plug o) (pushed_after x p c) in
+    = pushed_plug n x p (last_of c) o (lefts_of c) (omega arith) ∙ ap (option_plug o) (pushed_after x p c) in
     let f : pushed (operator_mark x) p (wrap (sigils_of (last_of c) []) (postfix (core (last_of c)))) (plug o (lefts_of c)) ≡ Some (plug o (also (before c x p) (fresh_lefts n)))
-        = ap (λ z. pushed (operator_mark x) p z (plug o (lefts_of c))) (wrap_again (last_of c) []) ∙ e in
+    = ap (λ z. pushed (operator_mark x) p z (plug o (lefts_of c))) (wrap_again (last_of c) []) ∙ e in
     read_step (after_chain o c s) (want (level (plug o (also (before c x p) (fresh_lefts n))) []) s) (mark (operator_mark x) p) y
-      (had_operator (core (last_of c)) (level (plug o (lefts_of c)) (sigils_of (last_of c) [])) s p x
-        ∙ ap (λ q. elim q [ None ↦ None | Some r ↦ Some (want (level r []) s) ]) f)
+    (had_operator (core (last_of c)) (level (plug o (lefts_of c)) (sigils_of (last_of c) [])) s p x
+    ∙ ap (λ q. elim q [ None ↦ None | Some r ↦ Some (want (level r []) s) ]) f)

@@ -1,9 +1,9 @@
 -- What closing the chains and prefixes of a level spells.
-use Rattle.std.specs.Prelude.{◌≡◌, ℕ, zero, suc, List, [], ◌∷◌, refl}
+use Rattle.std.specs.Prelude.{◌≡◌, ℕ, List, [], ◌∷◌, refl}
 use Rattle.std.proofs.Common.{◌∙◌, ap}
 use Rattle.host_grammar.specs.Derivations.{Chain, Unary, postfix, prefixed, Postfix}
 use Rattle.host_grammar.specs.Printing.{Printed, chain_then, unary_then, postfix_then}
-use Rattle.host_grammar.specs.Machine.{Left, nothing_left, before, Lefts, no_left, also, fresh_lefts, Sigil, sigil, Level, level, with_left, close, wrap, expr_of}
+use Rattle.host_grammar.specs.Machine.{Left, nothing_left, before, Lefts, no_left, also, Sigil, sigil, Level, level, with_left, close, wrap, expr_of}
 use Rattle.host_grammar.specs.Spelling.{left_then, lefts_then, deeper, sigils_then, within, level_then}
 
 pub wrap_then : (d : ℕ) (ps : List Sigil) (u : Unary) (y : List Printed) → unary_then d (wrap ps u) y ≡ sigils_then d ps (unary_then (deeper ps d) u y)

@@ -1,5 +1,4 @@
 -- The machine reads what a derivation spells.
--- exclude: Refusals:opens
 use Rattle.std.specs.Prelude.{◌≡◌, ℕ, suc, List, [], ◌∷◌, Some, None, Bool, true, false, cond, refl}
 use Rattle.std.proofs.Common.{◌∙◌, ap}
 use Rattle.host_lexer.specs.declared.token.Word.TheVariants as words
@@ -49,7 +48,7 @@ call_place g f l s t = record {
   enters = λ b d e y. argument_enters g f b l s d e y;
   parts = λ b u k p y. refl;
   closes = λ b u k y. refl;
-  ends_list = λ b y. refl
+  ends_list = λ b y. refl;
 }
 
 abbrev array_place : Spot → Level → OfExpr → Spot → ListPlace
@@ -61,7 +60,7 @@ array_place f l s t = record {
   enters = λ b d e y. element_enters f b l s d e y;
   parts = λ b u k p y. refl;
   closes = λ b u k y. refl;
-  ends_list = λ b y. refl
+  ends_list = λ b y. refl;
 }
 
 abbrev new_place : Spot → Named → Members → Spot → Level → OfExpr → Spot → ListPlace
@@ -73,7 +72,7 @@ new_place w n ms f l s t = record {
   enters = λ b d e y. given_enters w n ms f b l s d e y;
   parts = λ b u k p y. refl;
   closes = λ b u k y. refl;
-  ends_list = λ b y. refl
+  ends_list = λ b y. refl;
 }
 
 -- the properties of an object
@@ -337,7 +336,7 @@ mutual
   run_stmt d (try_catch w (braces f xs t) c (braces g zs u)) s y b h = run_items (suc d) xs (try_of w f s) (mark marks.CloseBrace t ∷ word words.Catch c ∷ block_then d (braces g zs u) y) b.0 refl
       ∙ run_items (suc d) zs (catch_of w (braces f xs t) c g s) (mark marks.CloseBrace u ∷ y) b.1 refl
   run_stmt d (try_catch_name w (braces f xs t) c k n q (braces g zs u)) s y b h = run_items (suc d) xs (try_of w f s)
-        (mark marks.CloseBrace t ∷ word words.Catch c ∷ opening d (kinds.Mark marks.OpenParen) k ∷ name_of n ∷ mark marks.CloseParen q ∷ block_then d (braces g zs u) y) b.0 refl
+      (mark marks.CloseBrace t ∷ word words.Catch c ∷ opening d (kinds.Mark marks.OpenParen) k ∷ name_of n ∷ mark marks.CloseParen q ∷ block_then d (braces g zs u) y) b.0 refl
       ∙ run_items (suc d) zs (catch_name_of w (braces f xs t) c k n q g s) (mark marks.CloseBrace u ∷ y) b.1 refl
 
   pub run_items : (d : ℕ) (xs : Items) (b : OfBlock) (y : List Printed) → AreFine (block_in_loop b) (block_in_function b) xs → NotElse y → read (items (in_block no_item b)) (items_then d xs y) ≡ read (items (in_block xs b)) y

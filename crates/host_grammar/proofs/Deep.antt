@@ -1,18 +1,16 @@
 -- The first token that opens more constructs than may be open, as the machine counts them.
--- exclude: Refusals:opens Refusals:first
 use Rattle.std.specs.Prelude.{◌≡◌, ℕ, zero, suc, ◌+◌, ◌<◌, ◌≤◌, List, [], ◌∷◌, ◌++◌, length, take, drop, Option, Some, None, refl, slice_get}
 use Rattle.std.proofs.Common.{sym, ◌∙◌, ap, subst, ◌⊎◌, inl, inr, arith}
-use Rattle.host_grammar.specs.Derivations.{Script, more}
+use Rattle.host_grammar.specs.Derivations.{Script}
 use Rattle.host_grammar.specs.Printing.{Printed, Sign, script_then}
-use Rattle.host_grammar.specs.Conditions.{IsScript, sign}
+use Rattle.host_grammar.specs.Conditions.{IsScript}
 use Rattle.host_grammar.specs.Refusals.{Begins, IsTooDeep, IsUnexpected, most_open}
 use Rattle.host_grammar.specs.Machine.{State, run, start, step}
-use Rattle.host_grammar.specs.Spelling.{within}
 use Rattle.host_grammar.specs.Counting.{AreWithin, counts, opens}
 use Rattle.host_grammar.proofs.Main.{begins_reached, counted, reached_begins, run_next}
-use Rattle.std.proofs.lemmas.Option.{slice_get_within, slice_get_past} -- keep
-use Rattle.std.proofs.lemmas.Bool.{cases_lt} -- keep
-use Rattle.std.proofs.lemmas.List.{take-append-drop} -- keep
+use Rattle.std.proofs.lemmas.Option.{slice_get_within, slice_get_past}
+use Rattle.std.proofs.lemmas.Bool.{cases_lt}
+use Rattle.std.proofs.lemmas.List.{take-append-drop}
 
 past : {X : Type 0} (i : ℕ) (x : X) → slice_get {X = X} [] i ≡ Some x → ⊥
 past {X} i x h = let e : None ≡ Some x = sym (slice_get_past {X = X} [] i (omega arith)) ∙ h in absurd cc
@@ -59,8 +57,11 @@ front_get (suc n) (suc i) (t ∷ ts) us h l = front_get n i ts us (omega arith) 
 -- in a script that begins with the first n tokens
 module _ (ts us : List Sign) (n : ℕ) (x : Script) (i : IsScript (take n ts ++ us) x) (l : n ≤ length ts) where
   pub state_in : (k : ℕ) → k ≤ n → (s : State) × (run start (take k ts) ≡ Some s)
-  state_in k h = begins_reached (take k ts) (drop k (take n ts ++ us), x,
-      subst (λ z. IsScript z x) (sym (take-append-drop k (take n ts ++ us)) ∙ ap (λ z. z ++ drop k (take n ts ++ us)) (front_take n k ts us h l)) i)
+  state_in k h = begins_reached (take k ts) (
+    drop k (take n ts ++ us),
+    x,
+    subst (λ z. IsScript z x) (sym (take-append-drop k (take n ts ++ us)) ∙ ap (λ z. z ++ drop k (take n ts ++ us)) (front_take n k ts us h l)) i,
+  )
 
   pub opens_in : (k : ℕ) (s : State) (t : Sign) → k < n → run start (take k ts) ≡ Some s → slice_get ts k ≡ Some t
       → slice_get (script_then x []) k ≡ Some (record { sign = t; nth = opens s t.kind })
@@ -85,7 +86,7 @@ deep_from ts k s t h g o w (us, x, i) =
       is_script = i;
       opens = λ p e. let q : Some (record { sign = t; nth = opens s t.kind }) ≡ Some p = sym (opens_in ts us (k + 1) x i m k s t (omega arith) h g) ∙ e in
           let r : record { sign = t; nth = opens s t.kind } ≡ p = cc in subst (λ (z : Printed). most_open < z.nth) r o;
-      first = λ j p b e. let c = opened_in ts us (k + 1) x i m j p (omega arith) e in subst (λ (z : Printed). z.nth ≤ most_open) (sym c.4) (w j c.0 c.1 b c.2 c.3)
+      first = λ j p b e. let c = opened_in ts us (k + 1) x i m j p (omega arith) e in subst (λ (z : Printed). z.nth ≤ most_open) (sym c.4) (w j c.0 c.1 b c.2 c.3);
     }
 
 pub too_deep_at : (ts : List Sign) (k : ℕ) (s r : State) (t : Sign) → run start (take k ts) ≡ Some s → slice_get ts k ≡ Some t → step s t ≡ Some r → most_open < opens s t.kind → AreWithin ts k → IsTooDeep ts k

@@ -1,5 +1,4 @@
 -- What is kept in a state meets the conditions beside the productions.
--- exclude: Refusals:opens Refusals:first Conditions:sign
 use Rattle.std.specs.Prelude.{◌≡◌, ℕ, List, [], ◌∷◌, Option, Some, None, Bool, true, false, cond, refl}
 use Rattle.std.proofs.Common.{sym, ◌∙◌, ap, subst, ◌⊎◌, inl, inr}
 use Rattle.host_lexer.specs.declared.token.Word.TheVariants as words
@@ -7,7 +6,7 @@ use Rattle.host_lexer.specs.declared.token.Mark.{Mark}
 use Rattle.host_lexer.specs.declared.token.Mark.TheVariants as marks
 use Rattle.host_lexer.specs.declared.token.TokenKind.{TokenKind}
 use Rattle.host_lexer.specs.declared.token.TokenKind.TheVariants as kinds
-use Rattle.host_grammar.specs.Derivations.{Any, Block, Chain, Exprs, Function, Item, Items, LetDecls, Members, Named, Names, Operator, Postfix, PropList, Script, Spot, Stmt, Target, Unary, and_member, and_part, array, break_off, call, const_to, consts, continue_on, if_else, if_then, index, lets, literal, member, name, new, no_item, no_member, object, paren, postfix, prefixed, primary, set_to, statement, to_index, to_member, to_name, unset, while_do}
+use Rattle.host_grammar.specs.Derivations.{Any, Block, Chain, Exprs, Item, Items, LetDecls, Members, Named, Names, Operator, Postfix, PropList, Script, Spot, Stmt, Target, Unary, and_member, and_part, array, break_off, call, const_to, consts, continue_on, if_else, if_then, index, lets, literal, member, name, new, no_item, no_member, object, paren, postfix, prefixed, primary, set_to, statement, to_index, to_member, to_name, unset, while_do}
 use Rattle.host_grammar.specs.Printing.{Sign, prefix_kind}
 use Rattle.host_grammar.specs.Conditions.{AreFine, BeginsWithNoBrace, IsFine, IsFineBlock, IsFineItem, IsFineScript, OnOneLine, ends_open, first_of, first_of_postfix, first_of_target, first_of_unary}
 use Rattle.host_grammar.specs.Machine.{Before, Left, Lefts, Level, OfBlock, OfExpr, OfItem, OfStmt, Sigil, State, accept, after, also, any_at, argued, argument, assigned, at_any, at_catch, at_mark, at_name, before, begun, block_ended, block_in_function, block_in_loop, block_of, body_of, braced, bracketed, break_begun, catch_begun, catch_closed, catch_name_of, catch_named, catch_of, catch_opened, caught, close, closed, complete, const_begun, const_named, consts_with, continue_begun, dotted, element, elemented, else_of, ended, ends, equated, expr_of, fresh, fresh_lefts, function_begun, function_named, function_of, given, giving, had, have, if_begun, in_array, in_assign, in_block, in_call, in_const, in_expression, in_function, in_if, in_index, in_let, in_loop, in_new, in_paren, in_prop, in_return, in_script, in_throw, in_while, is_fresh, item_in_function, item_in_loop, item_of, itemed, items, let_begun, let_goes_on, let_named, lets_with, level, moved, name_keyed, named_at, named_key, new_begun, new_dotted, new_named, newly_named, next_of, no_left, none_before, nothing_left, operated, operator_at, other_key, parameter, parameter_goes_on, parameter_read, parametered, parameters_read, parted, propertied, property, pushed, return_begun, returned, sigil, started, target_of, then_of, throw_begun, try_begun, try_of, try_read, want, wanted, while_begun, with_left, wrap}

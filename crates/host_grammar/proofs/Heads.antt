@@ -1,12 +1,11 @@
 -- The first token of a part, and what it leads to.
--- exclude: Refusals:opens Refusals:first
 use Rattle.std.specs.Prelude.{◌≡◌, ℕ, List, [], ◌∷◌, Option, Some, None, Bool, true, false, cond, refl}
 use Rattle.std.proofs.Common.{sym, ap, subst}
 use Rattle.host_lexer.specs.declared.token.Word.TheVariants as words
 use Rattle.host_lexer.specs.declared.token.Mark.TheVariants as marks
 use Rattle.host_lexer.specs.declared.token.TokenKind.{TokenKind}
 use Rattle.host_lexer.specs.declared.token.TokenKind.TheVariants as kinds
-use Rattle.host_grammar.specs.Derivations.{Block, Chain, Expr, Exprs, Function, Item, Literal, Members, Named, Postfix, Primary, Script, Spot, Stmt, Target, Unary, array, assign, big_int, block, braces, break_off, call, consts, continue_on, empty, expression, false_word, if_else, if_then, index, lets, lift, literal, member, more, name, negative, new, not_, null_word, number, object, operand, paren, postfix, prefixed, primary, return_none, return_value, statement, text, throw_value, to_index, to_member, to_name, true_word, try_catch, try_catch_name, type_of, undefined_word, while_do}
+use Rattle.host_grammar.specs.Derivations.{Block, Chain, Expr, Exprs, Item, Literal, Members, Named, Postfix, Primary, Script, Spot, Stmt, Target, Unary, array, assign, big_int, block, braces, break_off, call, consts, continue_on, empty, expression, false_word, if_else, if_then, index, lets, lift, literal, member, more, name, negative, new, not_, null_word, number, object, operand, paren, postfix, prefixed, primary, return_none, return_value, statement, text, throw_value, to_index, to_member, to_name, true_word, try_catch, try_catch_name, type_of, undefined_word, while_do}
 use Rattle.host_grammar.specs.Printing.{Printed, Sign, chain_then, item_then, kind_of, mark, postfix_then, primary_then, stmt_then, target_then, unary_then, word}
 use Rattle.host_grammar.specs.Conditions.{BeginsWithNoBrace, OnOneLine, first_of, first_of_postfix, first_of_primary, first_of_target, first_of_unary}
 use Rattle.host_grammar.specs.Machine.{Before, Level, OfExpr, OfItem, OfStmt, State, accept, argued, argument, begun, element, elemented, fresh, given, giving, in_array, in_block, in_call, in_expression, in_new, in_return, in_script, in_throw, item_of, itemed, items, return_begun, returned, started, step, throw_begun, want, wanted}

@@ -1,12 +1,11 @@
 -- The machine accepts the scripts and no others, and refuses at the least place.
--- exclude: Refusals:opens Refusals:first
 use Rattle.std.specs.Prelude.{◌≡◌, ℕ, ◌+◌, ◌<◌, List, [], ◌∷◌, ◌++◌, length, take, map, Option, Some, None, refl, slice_get}
 use Rattle.std.proofs.Common.{sym, ◌∙◌, ap, subst, arith}
 use Rattle.host_grammar.specs.Derivations.{Script}
 use Rattle.host_grammar.specs.Printing.{Printed, Sign, script_then}
-use Rattle.host_grammar.specs.Conditions.{IsScript, sign}
+use Rattle.host_grammar.specs.Conditions.{IsScript}
 use Rattle.host_grammar.specs.Refusals.{Begins, IsUnexpected}
-use Rattle.host_grammar.specs.Machine.{State, accept, ends, run, start, step}
+use Rattle.host_grammar.specs.Machine.{State, accept, run, start, step}
 use Rattle.host_grammar.specs.Spelling.{state_then}
 use Rattle.host_grammar.specs.Counting.{counts, opens}
 use Rattle.host_grammar.proofs.Complete.{scripts_are_read}
@@ -14,10 +13,9 @@ use Rattle.host_grammar.proofs.Fine.{Keeps, StateFine, accept_fine, moves_keep}
 use Rattle.host_grammar.proofs.Heads.{read}
 use Rattle.host_grammar.proofs.Sound.{Spells, accept_spells, moves_spell}
 use Rattle.host_grammar.proofs.Viable.{Ends, states_end}
-use Rattle.std.proofs.lemmas.List.{take_more, append-nil} -- keep
-use Rattle.std.proofs.Math.Seq.{take-length} -- keep
-use Rattle.std.proofs.lemmas.Grind.{common_steps} -- keep
-use Rattle.std.proofs.lemmas.Option.{get_or_from_slice_get, slice_get_within} -- keep
+use Rattle.std.proofs.lemmas.List.{take_more, append-nil}
+use Rattle.std.proofs.Math.Seq.{take-length}
+use Rattle.std.proofs.lemmas.Option.{get_or_from_slice_get, slice_get_within}
 
 abbrev pub finish : Option State → Option Script
 finish None = None
@@ -85,7 +83,7 @@ printing_is ts s x h a = accept_spells s x a ∙ counts_spell ts start s [] h �
 pub accepted_script : (ts : List Sign) (s : State) (x : Script) → run start ts ≡ Some s → accept s ≡ Some x → IsScript ts x
 accepted_script ts s x h a = record {
   spelled = ap (map (λ (p : Printed). p.sign)) (printing_is ts s x h a) ∙ counts_signs ts start s h;
-  fine = accept_fine s x (run_fine ts start s tt h) a
+  fine = accept_fine s x (run_fine ts start s tt h) a;
 }
 
 finished : (o : Option State) (x : Script) → finish o ≡ Some x → (s : State) × (o ≡ Some s) × (accept s ≡ Some x)
@@ -146,12 +144,16 @@ pub unexpected_within : (ts : List Sign) (k : ℕ) (s : State) (t : Sign) → ru
 unexpected_within ts k s t h g e = record {
   begins = reached_begins (take k ts) s h;
   next = λ _ b. stuck_ends ts k s t h g e b;
-  ends = λ l x i. let w : k < length ts = slice_get_within ts k t g in absurd (omega arith)
+  ends = λ l x i. let w : k < length ts = slice_get_within ts k t g in absurd (omega arith);
 }
 
 pub unexpected_at_end : (ts : List Sign) (s : State) → run start ts ≡ Some s → accept s ≡ None → IsUnexpected ts (length ts)
 unexpected_at_end ts s h a = record {
   begins = subst Begins (sym (take-length ts)) (reached_begins ts s h);
   next = λ l b. absurd (omega arith);
-  ends = λ _ x i. no_script ts s x h a i
+  ends = λ _ x i. no_script ts s x h a i;
 }
+
+-- each script's tokens lead to a state that accepts it
+pub script_reached : (ts : List Sign) (x : Script) → IsScript ts x → (s : State) × (run start ts ≡ Some s) × (accept s ≡ Some x)
+script_reached ts x i = finished (run start ts) x (script_accepted ts x i)

@@ -1,5 +1,4 @@
 -- What the reader has read is what its state spells, and each token opens as many constructs as are counted.
--- exclude: Conditions:sign Refusals:opens
 use Rattle.std.specs.Prelude.{◌≡◌, ℕ, zero, suc, List, [], ◌∷◌, Option, Some, None, Bool, true, false, cond, refl}
 use Rattle.std.proofs.Common.{sym, ◌∙◌, ap}
 use Rattle.host_lexer.specs.declared.token.Word.TheVariants as words
@@ -7,7 +6,7 @@ use Rattle.host_lexer.specs.declared.token.Mark.{Mark}
 use Rattle.host_lexer.specs.declared.token.Mark.TheVariants as marks
 use Rattle.host_lexer.specs.declared.token.TokenKind.{TokenKind}
 use Rattle.host_lexer.specs.declared.token.TokenKind.TheVariants as kinds
-use Rattle.host_grammar.specs.Derivations.{Any, Block, ConstDecl, ConstDecls, Expr, Exprs, Function, Item, Items, LetDecl, LetDecls, Members, Named, Names, Operator, Postfix, Prop, PropList, Script, Spot, Stmt, Target, Unary, and, and_member, and_part, any_name, any_word, array, break_off, call, continue_on, divided, equals, greater, greater_equals, if_else, if_then, index, less, less_equals, literal, member, minus, name, new, no_item, no_member, not_equals, object, or, paren, plus, postfix, primary, remainder, statement, times, to_index, to_member, to_name, while_do}
+use Rattle.host_grammar.specs.Derivations.{Any, Block, ConstDecl, ConstDecls, Expr, Exprs, Item, Items, LetDecl, LetDecls, Members, Named, Names, Operator, Postfix, Prop, PropList, Script, Spot, Stmt, Target, Unary, and, and_member, and_part, any_name, any_word, array, break_off, call, continue_on, divided, equals, greater, greater_equals, if_else, if_then, index, less, less_equals, literal, member, minus, name, new, no_item, no_member, not_equals, object, or, paren, plus, postfix, primary, remainder, statement, times, to_index, to_member, to_name, while_do}
 use Rattle.host_grammar.specs.Printing.{Printed, any_of, chain_then, const_then, consts_then, exprs_then, item_then, let_then, lets_then, listed_then, mark, name_of, names_then, operator_mark, params_then, plain, postfix_then, prop_list_then, prop_then, props_then, script_then, stmt_then, target_then, unary_then, word}
 use Rattle.host_grammar.specs.Machine.{Before, Left, Lefts, Level, OfBlock, OfExpr, OfItem, OfStmt, Sigil, State, accept, after, also, any_at, argued, argument, assigned, at_any, at_catch, at_mark, at_name, before, begun, block_ended, block_of, body_of, braced, bracketed, break_begun, catch_begun, catch_closed, catch_name_of, catch_named, catch_of, catch_opened, caught, close, closed, comma_after, complete, const_begun, const_named, consts_with, continue_begun, dotted, element, elemented, else_of, ended, ends, equated, exprs_with, fresh, fresh_lefts, function_begun, function_named, function_of, given, giving, had, have, if_begun, in_array, in_assign, in_block, in_call, in_const, in_expression, in_function, in_if, in_index, in_let, in_loop, in_new, in_paren, in_prop, in_return, in_script, in_throw, in_while, is_fresh, item_of, itemed, items, let_begun, let_goes_on, let_named, lets_with, level, listed_of, moved, name_keyed, named_at, named_key, names_with, new_begun, new_dotted, new_named, newly_named, next_of, no_left, none_before, nothing_left, operated, operator_at, other_key, parameter, parameter_goes_on, parameter_read, parametered, parameters_read, params_of, parted, propertied, property, props_of, props_with, pushed, return_begun, returned, started, target_of, then_of, throw_begun, try_begun, try_of, try_read, want, wanted, while_begun, with_left, wrap}
 use Rattle.host_grammar.specs.Spelling.{consts_before, depth, expr_before, exprs_before, item_before, item_depth, left_then, lefts_then, lets_before, names_before, props_before, state_then, stmt_before, stmt_depth, under}

@@ -1,11 +1,10 @@
 -- Each state of the machine can be completed.
--- exclude: Refusals:opens Refusals:first
 use Rattle.std.specs.Prelude.{◌≡◌, List, [], ◌∷◌, Some, false, refl}
 use Rattle.std.proofs.Common.{◌∙◌}
 use Rattle.host_lexer.specs.declared.token.Word.TheVariants as words
 use Rattle.host_lexer.specs.declared.token.Mark.TheVariants as marks
 use Rattle.host_lexer.specs.declared.token.TokenKind.TheVariants as kinds
-use Rattle.host_grammar.specs.Derivations.{Block, ConstDecls, Item, Items, LetDecls, Members, Named, Names, Params, Postfix, Script, Spot, Stmt, and_function, and_item, and_member, and_part, any_name, array, assign, block, braces, break_off, call, const_to, consts, continue_on, empty, expression, function, if_else, index, keyed, lets, listed, literal, member, new, no_item, no_member, nothing, number, object, params, paren, primary, props, return_none, return_value, set_to, short, statement, text, throw_value, try_catch, try_catch_name, unset, while_do}
+use Rattle.host_grammar.specs.Derivations.{Block, ConstDecls, Item, Items, LetDecls, Members, Named, Names, Params, Postfix, Script, Spot, Stmt, and_function, and_item, and_member, and_part, any_name, array, assign, block, braces, break_off, call, const_to, consts, continue_on, empty, expression, function, if_else, index, keyed, lets, listed, literal, member, new, no_item, no_member, nothing, number, object, params, paren, primary, props, return_none, return_value, set_to, short, statement, throw_value, try_catch, try_catch_name, unset, while_do}
 use Rattle.host_grammar.specs.Printing.{Printed, mark, name_of, plain, word}
 use Rattle.host_grammar.specs.Machine.{Before, Level, OfBlock, OfExpr, OfItem, OfStmt, State, argument, begun, block_of, body_of, break_begun, catch_begun, catch_closed, catch_name_of, catch_named, catch_of, catch_opened, complete, const_begun, const_named, consts_with, continue_begun, dotted, element, else_of, expr_of, exprs_with, fresh, function_begun, function_named, function_of, given, have, if_begun, in_array, in_assign, in_block, in_call, in_const, in_expression, in_if, in_index, in_let, in_new, in_paren, in_prop, in_return, in_script, in_throw, in_while, item_of, items, let_begun, let_named, lets_with, listed_of, named_key, new_begun, new_dotted, new_named, next_of, none_before, other_key, parameter, parameter_read, parameters_read, params_of, property, props_of, props_with, return_begun, step, then_of, throw_begun, try_begun, try_of, try_read, want, while_begun}
 use Rattle.host_grammar.proofs.Complete.{else_closes, item_closes, loop_closes}

@@ -7,7 +7,7 @@ use Rattle.host_lexer.specs.declared.token.TokenKind.TheVariants as kinds
 use Rattle.host_grammar.specs.Printing.{Sign, Printed}
 use Rattle.host_grammar.specs.Refusals.{most_open}
 use Rattle.host_grammar.specs.Machine.{OfStmt, item_of, then_of, else_of, body_of, State, want, have, argument, element, given, new_named, items, begun, complete, if_begun, while_begun, return_begun, throw_begun, try_begun, catch_begun, catch_closed, function_named, parameters_read, start, step, run}
-use Rattle.host_grammar.specs.Spelling.{depth, stmt_depth, item_depth, under}
+use Rattle.host_grammar.specs.Spelling.{stmt_depth, item_depth, under}
 
 -- where an operand begins
 abbrev pub operand_opens : ℕ → TokenKind → ℕ

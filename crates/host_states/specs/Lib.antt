@@ -1,0 +1,4 @@
+pub mod Moves
+pub mod Refused
+pub mod Shapes
+pub mod Stacks

@@ -1,0 +1,12 @@
+//! Which token may stand where in a script: the states of its reader, without what was read, and the place at which tokens
+//! are refused.
+#![tactic(auto)]
+
+mod reader;
+mod refusal;
+mod stack;
+mod state;
+
+pub use reader::Reader;
+pub use refusal::{Refusal, refusal_of};
+pub use state::Move;
