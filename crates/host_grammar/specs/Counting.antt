@@ -1,4 +1,4 @@
--- Private: how many constructs are open with a token that opens one, in each state of the reader; elsewhere 0.
+-- How many constructs are open with a token that opens one, in each state of the reader; elsewhere 0.
 use Rattle.std.specs.Prelude.{◌≡◌, ℕ, suc, ◌<◌, ◌≤◌, List, [], ◌∷◌, take, Some, None, slice_get}
 use Rattle.host_lexer.specs.declared.token.Word.TheVariants as words
 use Rattle.host_lexer.specs.declared.token.Mark.TheVariants as marks

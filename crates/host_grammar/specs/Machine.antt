@@ -1,4 +1,4 @@
--- Private: the reader of scripts as a machine over one token, with what is open around it.
+-- The reader of scripts as a machine over one token, with what is open around it.
 use Rattle.std.specs.Prelude.{ℕ, zero, suc, Bool, true, false, cond, List, [], ◌∷◌, Option, Some, None}
 use Rattle.host_lexer.specs.declared.token.Word.TheVariants as words
 use Rattle.host_lexer.specs.declared.token.Mark.{Mark}

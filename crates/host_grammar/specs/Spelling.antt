@@ -1,4 +1,4 @@
--- Private: the tokens that a state of the reader has read, and how many constructs are open there.
+-- The tokens that a state of the reader has read, and how many constructs are open there.
 use Rattle.std.specs.Prelude.{ℕ, suc, List, [], ◌∷◌}
 use Rattle.host_lexer.specs.declared.token.Word.TheVariants as words
 use Rattle.host_lexer.specs.declared.token.Mark.TheVariants as marks
