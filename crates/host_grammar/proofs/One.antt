@@ -1,24 +1,26 @@
 -- Tokens are read as one tree, or refused at one place.
-use Rattle.std.specs.Prelude.{◌≡◌, ℕ, zero, suc, ◌+◌, ◌<◌, ◌≤◌, List, [], ◌∷◌, ◌++◌, length, take, drop, map, Some, None, refl, slice_get}
+use Rattle.std.specs.Prelude.{◌≡◌, ℕ, zero, suc, ◌+◌, ◌<◌, ◌≤◌, List, [], ◌∷◌, ◌++◌, length, take, drop, map, refl}
 use Rattle.std.proofs.Common.{sym, ◌∙◌, ap, subst, arith, ◌⊎◌, inl, inr, append-nil}
 use Rattle.std.proofs.lemmas.Bool.{cases_lt}
 use Rattle.std.proofs.lemmas.List.{take-append-drop, length-map, take_all}
 use Rattle.std.proofs.Math.Seq.{take-length}
 use Rattle.host_lexer.specs.declared.token.Token.{Token}
 use Rattle.host_grammar.specs.Derivations.{Named, Script}
-use Rattle.host_grammar.specs.Printing.{Sign, Printed, seen}
+use Rattle.host_grammar.specs.Printing.{Sign, seen}
 use Rattle.host_grammar.specs.Conditions.{IsScript}
 use Rattle.host_grammar.specs.Scopes.{IsFirstAgain, HasNoAgain}
 use Rattle.host_grammar.specs.Refusals.{Begins, IsUnexpected, IsTooDeep, most_open, Parsed, tree, unexpected, too_deep, early, place_of, IsParsed, IsSame}
-use Rattle.host_grammar.specs.Machine.{State, start, run}
 use Rattle.host_grammar.specs.Counting.{opens}
 use Rattle.host_grammar.proofs.Main.{one_script}
 use Rattle.host_grammar.proofs.Deep.{front_take, state_in, opens_in, not_deep_at, token_at}
 
 -- a front of what begins a script begins one
 begins_less : (ts : List Sign) (m n : ℕ) → m ≤ n → n ≤ length ts → Begins (take n ts) → Begins (take m ts)
-begins_less ts m n h l (rest, x, i) = (drop m (take n ts ++ rest), x,
-    subst (λ z. IsScript z x) (sym (take-append-drop m (take n ts ++ rest)) ∙ ap (λ z. z ++ drop m (take n ts ++ rest)) (front_take n m ts rest h l)) i)
+begins_less ts m n h l (rest, x, i) = (
+  drop m (take n ts ++ rest),
+  x,
+  subst (λ z. IsScript z x) (sym (take-append-drop m (take n ts ++ rest)) ∙ ap (λ z. z ++ drop m (take n ts ++ rest)) (front_take n m ts rest h l)) i,
+)
 
 script_begins : (ts : List Sign) (x : Script) (m : ℕ) → IsScript ts x → m ≤ length ts → Begins (take m ts)
 script_begins ts x m i l = begins_less ts m (length ts) l (omega arith) ([], x, subst (λ z. IsScript z x) (sym (append-nil (take (length ts) ts) ∙ take-length ts)) i)
