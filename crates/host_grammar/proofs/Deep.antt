@@ -92,13 +92,13 @@ deep_from ts k s t h g o w (us, x, i) =
 pub too_deep_at : (ts : List Sign) (k : ℕ) (s r : State) (t : Sign) → run start (take k ts) ≡ Some s → slice_get ts k ≡ Some t → step s t ≡ Some r → most_open < opens s t.kind → AreWithin ts k → IsTooDeep ts k
 too_deep_at ts k s r t h g e o w = deep_from ts k s t h g o w (reached_begins (take (k + 1) ts) r (run_next ts k s t (Some r) h g e))
 
-token_at : (ts : List Sign) (k : ℕ) → k < length ts → (t : Sign) × (slice_get ts k ≡ Some t)
+pub token_at : (ts : List Sign) (k : ℕ) → k < length ts → (t : Sign) × (slice_get ts k ≡ Some t)
 token_at [] k h = absurd (omega arith)
 token_at (t ∷ ts) zero h = (t, refl)
 token_at (t ∷ ts) (suc k) h = token_at ts k (omega arith)
 
 -- where none opens more, none is too deep
-not_deep_at : (ts : List Sign) (k : ℕ) (s : State) (t : Sign) → IsTooDeep ts k → run start (take k ts) ≡ Some s → slice_get ts k ≡ Some t → most_open < opens s t.kind
+pub not_deep_at : (ts : List Sign) (k : ℕ) (s : State) (t : Sign) → IsTooDeep ts k → run start (take k ts) ≡ Some s → slice_get ts k ≡ Some t → most_open < opens s t.kind
 not_deep_at ts k s t d h g = let l : k < length ts = d.within in
     d.opens (record { sign = t; nth = opens s t.kind }) (opens_in ts d.more (k + 1) d.script d.is_script (omega arith) k s t (omega arith) h g)
 

@@ -5,5 +5,6 @@ pub mod Deep
 pub mod Fine
 pub mod Heads
 pub mod Main
+pub mod One
 pub mod Sound
 pub mod Viable

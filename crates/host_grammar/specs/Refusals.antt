@@ -48,3 +48,11 @@ IsParsed ts len (tree s) = IsScript (map seen ts) s × ((k : ℕ) → ¬ IsTooDe
 IsParsed ts len (unexpected p) = (k : ℕ) × (p ≡ place_of ts len k) × IsUnexpected (map seen ts) k × ((i : ℕ) → ¬ IsTooDeep (map seen ts) i)
 IsParsed ts len (too_deep p) = (k : ℕ) × (p ≡ place_of ts len k) × IsTooDeep (map seen ts) k
 IsParsed ts len (early p n) = (s : Script) × (m : Named) × IsScript (map seen ts) s × ((k : ℕ) → ¬ IsTooDeep (map seen ts) k) × IsFirstAgain s m × (p ≡ m.spot.place) × (n ≡ m.text)
+
+-- the same tree, or the same kind of refusal at the same place
+abbrev pub IsSame : Parsed → Parsed → Type 0
+IsSame (tree s) (tree t) = s ≡ t
+IsSame (unexpected p) (unexpected q) = p ≡ q
+IsSame (too_deep p) (too_deep q) = p ≡ q
+IsSame (early p n) (early q m) = p ≡ q
+IsSame _ _ = ⊥

@@ -4,7 +4,7 @@ ghost use Rattle.host_grammar.specs.Derivations.{Script, Postfix, no_part};
 ghost use Rattle.host_grammar.specs.Conditions.{IsScript};
 ghost use Rattle.host_grammar.specs.Machine.{Level, State, accept, run, start, step, expr_of};
 ghost use Rattle.host_grammar.specs.Printing.{Printed, Sign, seen, chain_then, postfix_then, script_then};
-ghost use Rattle.host_grammar.specs.Refusals.{IsParsed, tree, Begins, IsUnexpected, IsTooDeep, most_open};
+ghost use Rattle.host_grammar.specs.Refusals.{IsParsed, Parsed, IsSame, tree, Begins, IsUnexpected, IsTooDeep, most_open};
 ghost use Rattle.host_grammar.specs.Spelling.{level_then, within, state_then};
 ghost use Rattle.host_grammar.specs.Counting as counting;
 
@@ -53,4 +53,9 @@ pub fn depth_is_counted()
         → most_open < counting.opens s t.kind → counting.AreWithin signs k → IsTooDeep signs k }
     ensures no_more { (signs : List Sign) → counting.AreWithin signs (length signs) → (k : ℕ) → ¬ IsTooDeep signs k }
     ensures refused { (signs : List Sign) (n : ℕ) → IsUnexpected signs n → counting.AreWithin signs n → (k : ℕ) → ¬ IsTooDeep signs k }
+{}
+
+/// Tokens are read as one tree, or refused in one way at one place.
+pub fn readings_are_one()
+    ensures { (tokens : List Token) (len : ℕ) (a b : Parsed) → IsParsed tokens len a → IsParsed tokens len b → IsSame a b }
 {}

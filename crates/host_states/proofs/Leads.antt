@@ -77,9 +77,12 @@ Steps r t m q = (s : State) → shape s ≡ r → Follows (step s (seen t)) (ope
 pub one_more : NextLaw → (ts : List Token) (i : ℕ) (t : Token) (old new : Reader) (m : Move) → m ≡ moves.Went → i < length ts → t ≡ get_or ts i t → Steps old t m new → Leads ts i old → Leads ts (i + 1) new
 one_more next ts i t old new m w l h f (s, a, b, c) =
     let g = sign_at ts i t l h in
-    let q = follow_went (step s (seen t)) (opens s t.kind) new (subst (λ z. Follows (step s (seen t)) (opens s t.kind) z new) w (f s b)) in
-    (q.0, next (map seen ts) i s (seen t) a g ∙ q.1, sym q.3,
-      λ j r u k x y. within_more (map seen ts) i s (seen t) a g q.2 c j r u k x y (cases_lt j i))
+    let q = follow_went (step s (seen t)) (opens s t.kind) new (subst (λ z. Follows (step s (seen t)) (opens s t.kind) z new) w (f s b)) in (
+      q.0,
+      next (map seen ts) i s (seen t) a g ∙ q.1,
+      sym q.3,
+      λ j r u k x y. within_more (map seen ts) i s (seen t) a g q.2 c j r u k x y (cases_lt j i),
+    )
 
 -- a token that is refused
 pub refuses : ((signs : List Sign) (k : ℕ) (s : State) (t : Sign) → run start (take k signs) ≡ Some s → slice_get signs k ≡ Some t → step s t ≡ None → IsUnexpected signs k)

@@ -1,6 +1,6 @@
 -- A step of settling, and its end.
-use Rattle.std.specs.Prelude.{◌≡◌, ◌<◌, Bool, true, false, List, [], ◌∷◌, Option, Some, None, refl, length}
-use Rattle.std.proofs.Common.{sym, ◌∙◌, ap, arith}
+use Rattle.std.specs.Prelude.{◌≡◌, ◌<◌, Bool, true, false, List, [], ◌∷◌, Some, None, refl, length}
+use Rattle.std.proofs.Common.{ap, arith}
 use Rattle.host_states.specs.declared.state.Around.{Around}
 use Rattle.host_states.specs.declared.state.Open.{Open}
 use Rattle.host_states.specs.declared.state.Open.TheVariants as opens

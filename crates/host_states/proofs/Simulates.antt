@@ -1,6 +1,6 @@
 -- A token does to what the reader shows what it does to the machine's state.
-use Rattle.std.specs.Prelude.{◌≡◌, ℕ, zero, suc, ◌<◌, ◌≤◌, nat_lt, Bool, true, false, cond, List, [], ◌∷◌, Option, Some, None, refl}
-use Rattle.std.proofs.Common.{sym, ◌∙◌, ap, subst, arith, ◌⊎◌, inl, inr}
+use Rattle.std.specs.Prelude.{◌≡◌, ℕ, suc, ◌<◌, ◌≤◌, nat_lt, Bool, true, false, cond, List, [], ◌∷◌, Option, Some, None, refl}
+use Rattle.std.proofs.Common.{sym, ◌∙◌, ap, subst, arith, inl, inr}
 use Rattle.std.proofs.lemmas.Bool.Decides.{nat_tests}
 use Rattle.host_lexer.specs.declared.token.Token.{Token}
 use Rattle.host_grammar.specs.Printing.{seen}
@@ -16,12 +16,11 @@ use Rattle.host_states.specs.declared.state.Open.{Open}
 use Rattle.host_states.specs.declared.state.InStatement.TheVariants as on
 use Rattle.host_states.specs.declared.state.Open.TheVariants as opens_on
 use Rattle.host_states.specs.declared.state.Move.{Move}
-use Rattle.host_states.specs.declared.state.Move.TheVariants as moves
 use Rattle.host_states.specs.declared.reader.Reader.{Reader}
 use Rattle.host_states.specs.Moves as spec
 use Rattle.host_states.specs.Moves.{Outcome, refused, too_deep, went, Moves, opening}
-use Rattle.host_states.specs.Shapes.{shape, accepts, Follows, around, item_around, stmt_stack, item_stack, block_stack, expr_stack, level_of, is_bare, operand_at}
-use Rattle.host_grammar.specs.Derivations.{Spot, Named, Any, Postfix, primary, literal, name, paren, array, object, new, member, index, call, Members, no_member, and_member, no_item, break_off, continue_on, Operator, Unary, postfix, Target, Expr, Stmt, Block, Items, Names, Params, Item, Script, statement, if_then, if_else, while_do, and_item, and_part, LetDecls, ConstDecls, Exprs, PropList}
+use Rattle.host_states.specs.Shapes.{shape, accepts, Follows, around, item_around, stmt_stack, item_stack, block_stack, expr_stack, level_of, operand_at}
+use Rattle.host_grammar.specs.Derivations.{Spot, Named, Any, Postfix, member, Members, no_member, and_member, no_item, break_off, continue_on, Operator, Unary, postfix, Target, Stmt, Block, Items, Names, Item, Script, statement, if_then, if_else, while_do, and_item, and_part, LetDecls, Exprs, PropList}
 use Rattle.host_grammar.specs.Refusals.{most_open}
 use Rattle.host_grammar.specs.Machine as machine
 use Rattle.host_grammar.specs.Machine.{Before, Left, nothing_left, before, Lefts, no_left, also, Level, level, fresh, OfExpr, in_paren, in_index, in_call, in_array, in_new, in_prop, in_assign, in_if, in_while, in_return, in_throw, in_let, in_const, OfStmt, item_of, then_of, else_of, body_of, OfItem, in_script, in_block, OfBlock, block_of, try_of, catch_of, catch_name_of, function_of, State, want, have, dotted, argument, element, given, new_begun, new_named, new_dotted, property, named_key, other_key, items, begun, complete, if_begun, while_begun, break_begun, continue_begun, return_begun, throw_begun, try_begun, try_read, catch_begun, catch_opened, catch_named, catch_closed, let_begun, let_named, const_begun, const_named, function_begun, function_named, parameter, parameter_read, parameters_read, is_fresh, target_of, pushed, wrap, next_of, fresh_lefts, start}

@@ -1,5 +1,5 @@
 -- What is told of tokens: that they are a script's, or the place at which they are refused.
-use Rattle.std.specs.Prelude.{◌≡◌, ℕ, List, map, Option, Some, None}
+use Rattle.std.specs.Prelude.{ℕ, List, map, Option, Some, None}
 use Rattle.host_lexer.specs.declared.token.Token.{Token}
 use Rattle.host_states.specs.declared.refusal.Refusal.{Refusal}
 use Rattle.host_states.specs.declared.refusal.Refusal.TheVariants.{Unexpected, TooDeep}

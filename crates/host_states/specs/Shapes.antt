@@ -1,5 +1,5 @@
 -- What the reader shows of a state of the grammar's machine, and what follows from a token.
-use Rattle.std.specs.Prelude.{◌≡◌, ℕ, zero, suc, ◌<◌, ◌≤◌, Bool, true, false, cond, List, [], ◌∷◌, Option, Some, None}
+use Rattle.std.specs.Prelude.{◌≡◌, ℕ, suc, ◌<◌, ◌≤◌, Bool, true, false, List, [], ◌∷◌, Option, Some, None}
 use Rattle.std.proofs.Common.{◌⊎◌}
 use Rattle.host_states.specs.declared.state.Level as code_level
 use Rattle.host_states.specs.declared.state.Around.{Around}

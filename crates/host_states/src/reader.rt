@@ -412,7 +412,12 @@ impl Reader {
         }
     }
 
-    fn expression_moved(&mut self, at: InExpression, level: Level, kind: &TokenKind) -> Result<Move, AllocError>
+    fn expression_moved(
+        &mut self,
+        at: InExpression,
+        level: Level,
+        kind: &TokenKind,
+    ) -> Result<Move, AllocError>
         ensures { IfOk result (λ m. Moves (spec.expression_moved at level self.old.stack kind.now) m self.new) }
     {
         match at {
@@ -487,8 +492,16 @@ impl Reader {
             Word::If => self.begin(InStatement::IfBegun, around, Open::Then(around)),
             Word::While => self.begin_loop(around),
             Word::Break => Ok(self.begin_where(around.in_loop, InStatement::BreakBegun, around)),
-            Word::Continue => Ok(self.begin_where(around.in_loop, InStatement::ContinueBegun, around)),
-            Word::Return => Ok(self.begin_where(around.in_function, InStatement::ReturnBegun, around)),
+            Word::Continue => Ok(self.begin_where(
+                around.in_loop,
+                InStatement::ContinueBegun,
+                around,
+            )),
+            Word::Return => Ok(self.begin_where(
+                around.in_function,
+                InStatement::ReturnBegun,
+                around,
+            )),
             Word::Throw => Ok(self.statement(InStatement::ThrowBegun, around)),
             Word::Try => Ok(self.statement(InStatement::TryBegun, around)),
             _ => self.expression_word(around, word),
@@ -625,7 +638,11 @@ impl Reader {
         ensures { IfOk result (λ m. Moves (spec.let_goes_on around self.old.stack kind.now) m self.new) }
     {
         match kind {
-            TokenKind::Mark(Mark::Equals) => self.within(InExpression::Want, around.depth, Open::Let(around)),
+            TokenKind::Mark(Mark::Equals) => self.within(
+                InExpression::Want,
+                around.depth,
+                Open::Let(around),
+            ),
             TokenKind::Mark(Mark::Comma) => Ok(self.statement(InStatement::LetBegun, around)),
             TokenKind::Mark(Mark::Semicolon) => Ok(self.statement(InStatement::Items, around)),
             _ => Ok(Move::Refused),
@@ -633,7 +650,13 @@ impl Reader {
     }
 
     // An expression on the line of the word before it.
-    fn wanted_on_line(&mut self, after_line: bool, item: Open, depth: usize, kind: &TokenKind) -> Result<Move, AllocError>
+    fn wanted_on_line(
+        &mut self,
+        after_line: bool,
+        item: Open,
+        depth: usize,
+        kind: &TokenKind,
+    ) -> Result<Move, AllocError>
         ensures { IfOk result (λ m. Moves (cond after_line spec.refused (spec.wanted (spec.fresh_at depth) (item ∷ self.old.stack) kind.now)) m self.new) }
     {
         if after_line {
@@ -642,7 +665,12 @@ impl Reader {
         self.wanted_in(item, depth, kind)
     }
 
-    fn returned(&mut self, after_line: bool, around: Around, kind: &TokenKind) -> Result<Move, AllocError>
+    fn returned(
+        &mut self,
+        after_line: bool,
+        around: Around,
+        kind: &TokenKind,
+    ) -> Result<Move, AllocError>
         ensures { IfOk result (λ m. Moves (spec.returned after_line around self.old.stack kind.now) m self.new) }
     {
         match kind {
@@ -655,7 +683,11 @@ impl Reader {
         ensures { IfOk result (λ m. Moves (spec.caught around self.old.stack kind.now) m self.new) }
     {
         match kind {
-            TokenKind::Mark(Mark::OpenBrace) => self.begin(InStatement::Items, around, Open::Catch(around)),
+            TokenKind::Mark(Mark::OpenBrace) => self.begin(
+                InStatement::Items,
+                around,
+                Open::Catch(around),
+            ),
             TokenKind::Mark(Mark::OpenParen) => Ok(self.catch_opened(around)),
             _ => Ok(Move::Refused),
         }
@@ -728,12 +760,22 @@ impl Reader {
         ensures { IfOk result (λ m. Moves (spec.statement_moved on.ConstNamed around self.old.stack false kind.now) m self.new) }
     {
         match kind {
-            TokenKind::Mark(Mark::Equals) => self.within(InExpression::Want, around.depth, Open::Const(around)),
+            TokenKind::Mark(Mark::Equals) => self.within(
+                InExpression::Want,
+                around.depth,
+                Open::Const(around),
+            ),
             _ => Ok(Move::Refused),
         }
     }
 
-    fn statement_moved(&mut self, at: InStatement, around: Around, after_line: bool, kind: &TokenKind) -> Result<Move, AllocError>
+    fn statement_moved(
+        &mut self,
+        at: InStatement,
+        around: Around,
+        after_line: bool,
+        kind: &TokenKind,
+    ) -> Result<Move, AllocError>
         ensures { IfOk result (λ m. Moves (spec.statement_moved at around self.old.stack after_line kind.now) m self.new) }
     {
         match at {
@@ -745,7 +787,12 @@ impl Reader {
             InStatement::BreakBegun => Ok(self.semicolon(around, kind)),
             InStatement::ContinueBegun => Ok(self.semicolon(around, kind)),
             InStatement::ReturnBegun => self.returned(after_line, around, kind),
-            InStatement::ThrowBegun => self.wanted_on_line(after_line, Open::Throw(around), around.depth, kind),
+            InStatement::ThrowBegun => self.wanted_on_line(
+                after_line,
+                Open::Throw(around),
+                around.depth,
+                kind,
+            ),
             InStatement::TryBegun => self.braces(around, Open::Try(around), kind),
             InStatement::TryRead => Ok(self.catch(around, kind)),
             InStatement::CatchBegun => self.caught(around, kind),

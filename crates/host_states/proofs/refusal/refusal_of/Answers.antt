@@ -1,4 +1,4 @@
-use Rattle.std.proofs.Common.{arith, sym}
+use Rattle.std.proofs.Common.{arith}
 use Rattle.host_states.proofs.Leads.{at_start, one_more, refuses, too_many, missing, whole}
 use Rattle.host_states.proofs.refusal.refusal_of.Goals as goal
 

@@ -1,0 +1,5 @@
+//! Tests of where scripts are refused: places that were worked out by hand from the grammar.
+#![tactic(auto)]
+
+#[cfg(test)]
+mod refusals;
