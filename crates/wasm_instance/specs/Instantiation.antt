@@ -24,8 +24,8 @@ use Rattle.wasm_store.specs.declared.instances.Instance.{Instance}
 use Rattle.wasm_store.specs.Store.{Store, module_at, table_at, element_at, with_table, with_element, replaced, most_entries}
 use Rattle.wasm_store.specs.Memories.{memory_at, data_at, with_memory, with_data, with_bytes}
 use Rattle.wasm_store.specs.Allocated.{func_addr, table_addr, mem_addr, instance_of, value_of, allocated}
-use Rattle.wasm_instance.specs.declared.instantiate.Instantiated.{Instantiated}
-use Rattle.wasm_instance.specs.declared.instantiate.Instantiated.TheVariants as ends
+use Rattle.wasm_instance.specs.declared.modules.Instantiated.{Instantiated}
+use Rattle.wasm_instance.specs.declared.modules.Instantiated.TheVariants as ends
 
 -- no table of the module has more entries than the limit of the embedding
 abbrev pub is_within_limits : Module → Bool

@@ -8,8 +8,8 @@ use Rattle.wasm_store.specs.declared.instances.Instance.{Instance}
 use Rattle.wasm_store.specs.Store.{Store, instance_at, function_at, type_of}
 use Rattle.wasm_store.specs.Whole.{HasLists, HasCode}
 use Rattle.wasm_store.specs.Allocated.{instance_of}
-use Rattle.wasm_instance.specs.declared.instantiate.Instantiated.{Instantiated}
-use Rattle.wasm_instance.specs.declared.instantiate.Instantiated.TheVariants as ends
+use Rattle.wasm_instance.specs.declared.modules.Instantiated.{Instantiated}
+use Rattle.wasm_instance.specs.declared.modules.Instantiated.TheVariants as ends
 
 -- each function is one of a module, whose instance has its lists
 abbrev pub AllHaveCode : Store → Type 0

@@ -1,6 +1,6 @@
 //! Allocation of a module (WebAssembly Core 2.0, section 4.5.3.8): each kind in the order of the module.
 
-ghost use Rattle.std.specs.Prelude.{◌≡◌, ◌<◌, ◌++◌, ◌×◌, true, [], map, length, slice_get, Some, IfOk, OnOk};
+ghost use Rattle.std.specs.Prelude.{◌≡◌, ◌<◌, ◌++◌, true, [], map, length, slice_get, Some, IfOk, OnOk};
 ghost use Rattle.std.specs.List.{All};
 ghost use Rattle.wasm_syntax.specs.declared.addresses.GlobalAddr.{GlobalAddr};
 ghost use Rattle.wasm_valid.specs.ModuleRules.{is_table, is_typed_module};

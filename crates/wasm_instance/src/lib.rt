@@ -4,7 +4,7 @@
 
 mod allocate;
 mod constants;
-mod instantiate;
+mod modules;
 mod segments;
 
-pub use instantiate::{Instantiated, instantiate};
+pub use modules::{Instantiated, instantiate};
