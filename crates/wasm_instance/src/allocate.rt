@@ -1,12 +1,12 @@
 //! Allocation of a module (WebAssembly Core 2.0, section 4.5.3.8): each kind in the order of the module.
 
-ghost use Rattle.std.specs.Prelude.{◌≡◌, ◌<◌, ◌++◌, true, [], map, length, slice_get, Some, IfOk, OnOk};
+ghost use Rattle.std.specs.Prelude.{◌≡◌, ◌<◌, ◌≤◌, ◌++◌, true, [], map, length, slice_get, Some, IfOk, OnOk};
 ghost use Rattle.std.specs.List.{All};
 ghost use Rattle.wasm_syntax.specs.declared.addresses.GlobalAddr.{GlobalAddr};
 ghost use Rattle.wasm_valid.specs.ModuleRules.{is_table, is_typed_module};
 ghost use Rattle.wasm_store.specs.Store.{module_at, instance_at, global_at, most_entries};
 ghost use Rattle.wasm_store.specs.Whole.{IsLater, IsFunction, IsGlobal, AreLive};
-ghost use Rattle.wasm_store.specs.Allocated.{fresh, func_addr, table_addr, global_addr, elem_addr, functions_of, tables_from, globals_from, elements_from, allocated, AreImports};
+ghost use Rattle.wasm_store.specs.Allocated.{fresh, func_addr, table_addr, global_addr, elem_addr, functions_of, tables_from, globals_from, new_items, elements_from, allocated, AreImports};
 ghost use Rattle.wasm_instance.specs.Instantiation.{is_within_limits};
 ghost use Rattle.wasm_instance.specs.Parts.{with_functions, with_tables, with_globals, with_elements, constant_in};
 
@@ -16,7 +16,7 @@ use std::alloc::{AllocError, Global};
 use wasm_store::laws::{modules_are_allocated, order, types_stay};
 use wasm_store::{FuncInst, GlobalInst, Instance, MOST_ENTRIES, Store};
 use wasm_syntax::{
-    ElemAddr, Func, FuncAddr, FuncType, GlobalAddr, InstAddr, Module, ModuleAddr, TableAddr,
+    Elem, ElemAddr, Func, FuncAddr, FuncType, GlobalAddr, GlobalDef, InstAddr, Module, ModuleAddr, TableAddr,
     TableType, Value,
 };
 
@@ -127,6 +127,13 @@ fn add_tables(
     Ok(())
 }
 
+fn global_def(module: &Module, k: usize) -> GlobalDef
+    requires { k < length «module».now.globals }
+    ensures { slice_get «module».now.globals k ≡ Some result }
+{
+    module.globals.as_slice()[k]
+}
+
 fn own_global(
     store: &Store,
     a: ModuleAddr,
@@ -139,7 +146,7 @@ fn own_global(
     ensures { slice_get (globals_from (constant_in (module_at store.now a) funcs.now values.now) (module_at store.now a).globals) k ≡ Some result }
 {
     let module = store.module(a).module();
-    let def = module.globals.as_slice()[k];
+    let def = global_def(module, k);
     GlobalInst {
         ty: def.ty,
         value: value(module, funcs, values, def.init),
@@ -171,7 +178,31 @@ fn add_globals(
     Ok(())
 }
 
+fn elem_at(module: &Module, k: usize) -> &Elem
+    requires { k < length «module».now.elems }
+    ensures { slice_get «module».now.elems k ≡ Some result.now }
+{
+    &module.elems.as_slice()[k]
+}
+
 /// The references of an element segment.
+fn items_of(
+    alloc: Global,
+    module: &Module,
+    segment: &Elem,
+    funcs: &[FuncAddr],
+    values: &[Value],
+) -> Result<Items<Value>, AllocError>
+    ensures { IfOk result (λ items. items ≡ new_items (constant_in «module».now funcs.now values.now) segment.now) }
+{
+    let mut items = Items::new(alloc);
+    for id in segment.items.as_slice() {
+        items.push(value(module, funcs, values, *id))?;
+    }
+    Ok(items)
+}
+
+/// One of the module's element segments.
 fn own_items(
     alloc: Global,
     store: &Store,
@@ -185,11 +216,8 @@ fn own_items(
     ensures { IfOk result (λ items. slice_get (elements_from (constant_in (module_at store.now a) funcs.now values.now) (module_at store.now a).elems) k ≡ Some items) }
 {
     let module = store.module(a).module();
-    let segment = &module.elems.as_slice()[k];
-    let mut items = Items::new(alloc);
-    for id in segment.items.as_slice() {
-        items.push(value(module, funcs, values, *id))?;
-    }
+    let segment = elem_at(module, k);
+    let items = items_of(alloc, module, segment, funcs, values)?;
     Ok(items)
 }
 

@@ -19,12 +19,13 @@ use wasm_syntax::{
 fn mode_at(store: &Store, i: InstAddr, k: usize) -> Mode
     requires live { i.0 < length store.now.instances }
     requires lists { HasLists store.now (instance_at store.now i) }
-    requires within { k < length (instance_at store.now i).elems }
     ensures { (segment : Elem) → slice_get (module_of store.now i).elems k ≡ Some segment → result ≡ segment.mode }
 {
     let a = store.instance(i).module;
-    let module = store.module(a).module();
-    module.elems.as_slice()[k].mode
+    match store.module(a).module().elems.as_slice().get(k) {
+        Some(segment) => segment.mode,
+        None => Mode::Passive,
+    }
 }
 
 /// The address of an element segment.
