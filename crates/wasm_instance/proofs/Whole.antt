@@ -1,5 +1,5 @@
 -- A module's things are added kind by kind, and then it is allocated.
-use Rattle.std.proofs.Common.{◌≡◌, ℕ, ◌+◌, ◌<◌, ◌≤◌, List, [], ◌∷◌, ◌++◌, length, refl, sym, ap, ◌∙◌, subst, append_nil, arith, length-append}
+use Rattle.std.proofs.Common.{◌≡◌, ℕ, ◌+◌, ◌<◌, ◌≤◌, List, [], ◌∷◌, ◌++◌, length, refl, sym, ap, ◌∙◌, subst, append-nil, arith, length-append}
 use Rattle.std.specs.Prelude.{true, Some, slice_get, slice_index_or, slice_set, map, nat_le}
 use Rattle.std.specs.List.{All, AllZip, list_all}
 use Rattle.std.proofs.Math.Seq.{set-append_seam}
@@ -143,9 +143,9 @@ module _ (s : Store) (a : ModuleAddr) (imports : Instance) where
   -- without memories and data segments that is all
   pub all_there : m.mems ≡ [] → m.datas ≡ [] → (t : Store) → t ≡ with_own_elements → t ≡ with_all
   all_there no_mems no_datas t e =
-      e ∙ ap (λ (ms : List MemInst). record with_own_elements { memories = ms }) (sym (append_nil s.memories))
+      e ∙ ap (λ (ms : List MemInst). record with_own_elements { memories = ms }) (sym (append-nil s.memories))
       ∙ ap (λ (ls : List Limit). with_memories (memories_from ls) with_own_elements) (sym no_mems)
-      ∙ ap (λ (ds : List (List ℕ)). record (with_memories (memories_from m.mems) with_own_elements) { datas = ds }) (sym (append_nil s.datas))
+      ∙ ap (λ (ds : List (List ℕ)). record (with_memories (memories_from m.mems) with_own_elements) { datas = ds }) (sym (append-nil s.datas))
       ∙ ap (λ (ds : List Data). with_datas (map (λ (segment : Data). segment.bytes) ds) (with_memories (memories_from m.mems) with_own_elements)) (sym no_datas)
 
   pub lists_there : IsAllocated s a imports → (t : Store) (i : Instance) → t ≡ with_all → i ≡ inst → HasLists t i
@@ -162,7 +162,7 @@ module _ (s : Store) (a : ModuleAddr) (imports : Instance) where
       subst (λ (x : Store). HasLists x i) (sym e) (subst (λ (j : Instance). HasLists with_all j) (sym same) there)
 
   there_blank : (i : InstAddr) → i.0 ≡ length s.instances → instance_at with_all i ≡ blank a
-  there_blank i first = get_or_push s.instances (blank a) (blank (record { 0 = 0 })) i.0 first
+  there_blank i first = get_or_push s.instances (blank a) (blank (record { 0 = 0 })) i.0 (sym first)
 
   pub blank_there : (t : Store) (i : InstAddr) → i.0 ≡ length s.instances → t ≡ with_all → instance_at t i ≡ blank a
   blank_there t i first e = ap (λ (x : Store). instance_at x i) e ∙ there_blank i first

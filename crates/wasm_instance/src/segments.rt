@@ -1,6 +1,6 @@
 //! The segments of a new instance: active ones are written one after the other, and dropped.
 
-ghost use Rattle.std.specs.Prelude.{◌≡◌, ◌<◌, length, slice_get, Some};
+ghost use Rattle.std.specs.Prelude.{◌≡◌, ◌<◌, [], length, slice_get, Some};
 ghost use Rattle.wasm_syntax.specs.declared.addresses.ElemAddr.{ElemAddr};
 ghost use Rattle.wasm_syntax.specs.declared.module.Elem.{Elem};
 ghost use Rattle.wasm_store.specs.Store.{module_at, instance_at, table_at, element_at};
