@@ -16,8 +16,8 @@ use std::alloc::{AllocError, Global};
 use wasm_store::laws::{modules_are_allocated, order, types_stay};
 use wasm_store::{FuncInst, GlobalInst, Instance, MOST_ENTRIES, Store};
 use wasm_syntax::{
-    Elem, ElemAddr, Func, FuncAddr, FuncType, GlobalAddr, GlobalDef, InstAddr, Module, ModuleAddr, TableAddr,
-    TableType, Value,
+    Elem, ElemAddr, Func, FuncAddr, FuncType, GlobalAddr, GlobalDef, InstAddr, Module, ModuleAddr,
+    TableAddr, TableType, Value,
 };
 
 /// Whether no table of the module has more entries than the embedding allows.

@@ -12,9 +12,7 @@ ghost use Rattle.wasm_instance.specs.Parts.{Ends, SameCode, module_of, offset_in
 use crate::constants::{number, value};
 use wasm_store::Store;
 use wasm_store::laws::{indices, instances_stay, order};
-use wasm_syntax::{
-    BlockId, ElemAddr, FuncAddr, InstAddr, Mode, TableAddr, Trap, Value,
-};
+use wasm_syntax::{BlockId, ElemAddr, FuncAddr, InstAddr, Mode, TableAddr, Trap, Value};
 
 /// What becomes of an element segment of the module of an instance.
 fn mode_at(store: &Store, i: InstAddr, k: usize) -> Mode
