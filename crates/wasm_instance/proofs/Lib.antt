@@ -3,3 +3,4 @@ pub mod Adding
 pub mod Whole
 pub mod Writing
 pub mod Callable
+pub mod Finished

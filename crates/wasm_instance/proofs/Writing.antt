@@ -22,12 +22,12 @@ use Rattle.wasm_syntax.specs.declared.addresses.ElemAddr.{ElemAddr}
 use Rattle.wasm_syntax.specs.declared.addresses.DataAddr.{DataAddr}
 use Rattle.wasm_valid.specs.ModuleRules.{is_typed_module}
 use Rattle.wasm_store.specs.declared.instances.Instance.{Instance}
-use Rattle.wasm_store.specs.Store.{Store, module_at, instance_at, table_at, element_at, with_table, with_element, replaced, run}
+use Rattle.wasm_store.specs.Store.{Store, no_module, blank, module_at, instance_at, table_at, element_at, with_table, with_element, replaced, run}
 use Rattle.wasm_store.specs.Whole.{IsLater, HasLists, HasElement, HasTable, AreTyped}
 use Rattle.wasm_store.specs.Allocated.{table_addr}
 use Rattle.wasm_store.specs.Laws.{TableOfIndex, ElementOfIndex}
 use Rattle.wasm_instance.specs.Instantiation.{Outcome, goes, traps, and_then, write_element, fits, table_of, init_element, init_elements, init_datas, init_segments}
-use Rattle.wasm_instance.specs.Parts.{Ends, SameCode, module_of}
+use Rattle.wasm_instance.specs.Parts.{Ends, SameCode, module_of, offset_in}
 use Rattle.wasm_instance.proofs.Rules.{table_is_there}
 
 pub zip_length : {A B : Type 0} (R : A → B → Type 0) (xs : List A) (ys : List B) → AllZip R xs ys → length xs ≡ length ys
@@ -73,16 +73,16 @@ names_active tables elements s i k e x id lists typed at segment there active =
     let elem : (table_at s (table_of i x)).elem ≡ segment.ty = ap (λ (b : TableAddr). (table_at s b).elem) same ∙ named.2.1 ∙ table.2 in
     record { live = live; live_segment = has.0; typed = subst (λ ty. AreTyped s (element_at s e) ty) (sym elem) has.1 }
 
+place_there : {A : Type 0} (xs : List A) (k : ℕ) → k < length xs → (x : A) × (slice_get xs k ≡ Some x)
+place_there [] k h = absurd (omega (arith, h))
+place_there (x ∷ xs) zero h = (x, refl)
+place_there (x ∷ xs) (suc k) h = place_there xs k (omega (arith, h))
+
 -- the element at a place of the module
 pub segment_there : (s : Store) (i : Instance) (k : ℕ) → HasLists s i → k < length i.elems → (segment : Elem) × (slice_get (module_at s i.module).elems k ≡ Some segment)
 segment_there s i k lists within =
     let count : length i.elems ≡ length (module_at s i.module).elems = zip_length (HasElement s) i.elems (module_at s i.module).elems lists.elems in
-    at_place (module_at s i.module).elems k (omega (arith, count, within))
-  where
-    at_place : {A : Type 0} (xs : List A) (k : ℕ) → k < length xs → (x : A) × (slice_get xs k ≡ Some x)
-    at_place [] k h = absurd (omega (arith, h))
-    at_place (x ∷ xs) zero h = (x, refl)
-    at_place (x ∷ xs) (suc k) h = at_place xs k (omega (arith, h))
+    place_there (module_at s i.module).elems k (omega (arith, count, within))
 
 -- The row.
 
@@ -123,3 +123,19 @@ left_none m i offset s t k all no_datas left =
     ap (λ (o : Outcome). and_then o (init_datas i offset i.datas m.datas))
     (sym left ∙ ap (λ (us : List ElemAddr). init_elements i offset us (drop k m.elems) t) (ap (λ (j : ℕ). drop j i.elems) all ∙ drop-length i.elems) ∙ none_left i offset (drop k m.elems) t)
     ∙ ap (λ (ds : List Data). init_datas i offset i.datas ds t) no_datas ∙ no_data_left i offset i.datas t
+
+pub same_code : (s t u : Store) → SameCode s t → SameCode t u → SameCode s u
+same_code s t u h k = record { modules = k.modules ∙ h.modules; instances = k.instances ∙ h.instances; functions = k.functions ∙ h.functions }
+
+-- a step that is told of the store as it is, told of the instance as it was
+pub step_ends : (s t new : Store) (i : InstAddr) (values : List Value) (k : ℕ) (r : Result (Unit {0}) Trap) → SameCode s t → HasLists s (instance_at s i) → k < length (instance_at s i).elems → ((e : ElemAddr) (segment : Elem) → slice_get (instance_at t i).elems k ≡ Some e → slice_get (module_of t i).elems k ≡ Some segment → Ends (init_element (instance_at t i) (offset_in (module_of t i) (instance_at t i) values) e segment.mode t) r new) → (e : ElemAddr) × (segment : Elem) × (slice_get (instance_at s i).elems k ≡ Some e) × (slice_get (module_of s i).elems k ≡ Some segment) × Ends (init_element (instance_at s i) (offset_in (module_of s i) (instance_at s i) values) e segment.mode t) r new
+step_ends s t new i values k r same lists within h =
+    let instances : instance_at t i ≡ instance_at s i = ap (λ (is : List Instance). slice_index_or is i.0 (blank (record { 0 = 0 }))) same.instances in
+    let modules : module_of t i ≡ module_of s i = ap (λ (j : Instance). module_at t j.module) instances ∙ ap (λ (ms : List Module). slice_index_or ms (instance_at s i).module.0 no_module) same.modules in
+    let by_instance : (e : ElemAddr) (segment : Elem) → slice_get (instance_at s i).elems k ≡ Some e → slice_get (module_of t i).elems k ≡ Some segment → Ends (init_element (instance_at s i) (offset_in (module_of t i) (instance_at s i) values) e segment.mode t) r new =
+    subst (λ (j : Instance). (e : ElemAddr) (segment : Elem) → slice_get j.elems k ≡ Some e → slice_get (module_of t i).elems k ≡ Some segment → Ends (init_element j (offset_in (module_of t i) j values) e segment.mode t) r new) instances h in
+    let by_module : (e : ElemAddr) (segment : Elem) → slice_get (instance_at s i).elems k ≡ Some e → slice_get (module_of s i).elems k ≡ Some segment → Ends (init_element (instance_at s i) (offset_in (module_of s i) (instance_at s i) values) e segment.mode t) r new =
+    subst (λ (m : Module). (e : ElemAddr) (segment : Elem) → slice_get (instance_at s i).elems k ≡ Some e → slice_get m.elems k ≡ Some segment → Ends (init_element (instance_at s i) (offset_in m (instance_at s i) values) e segment.mode t) r new) modules by_instance in
+    let found = segment_there s (instance_at s i) k lists within in
+    let at = place_there (instance_at s i).elems k within in
+    (at.0, found.0, at.1, found.1, by_module at.0 found.0 at.1 found.1)

@@ -254,6 +254,7 @@ pub(crate) fn allocate(
     values: &[Value],
 ) -> Result<InstAddr, AllocError>
     requires live { a.0 < length store.old.modules }
+    requires typed { is_typed_module (module_at store.old a) ≡ true }
     requires imports { AreImports store.old (module_at store.old a) imports.now }
     requires limits { is_within_limits (module_at store.old a) ≡ true }
     requires no_memories { (module_at store.old a).mems ≡ [] }
