@@ -51,7 +51,7 @@ impl Store {
     ghost use Rattle.std.specs.Bool.{OnTrue, OnFalse};
     ghost use Rattle.raw_memory.specs.Bytes.{InRange, run as bytes_from, replaced as with_new, IsWidth, number, low_bytes};
     ghost use Rattle.wasm_valid.specs.ModuleRules.{is_table, is_memory, is_typed_module};
-    ghost use Rattle.wasm_store.specs.Memories.{memory_at, data_at, with_memory, with_new_data, with_data, with_bytes, memory_type_of, may_grow_memory, may_have_memory, NewMemory, GrowsMemory};
+    ghost use Rattle.wasm_store.specs.Memories.{memory_at, data_at, with_memory, with_new_data, with_data, with_bytes, memory_type_of, all_pages, most_pages_in_all, may_grow_memory, may_have_memory, NewMemory, GrowsMemory};
     ghost use Rattle.wasm_store.specs.Store.{empty_store, blank, module_at, instance_at, function_at, table_at, global_at, element_at};
     ghost use Rattle.wasm_store.specs.Store.{with_module, with_new_instance, with_instance, with_function, with_new_table, with_table, with_new_global, with_global, with_new_element, with_element};
     ghost use Rattle.wasm_store.specs.Store.{most_entries, table_type_of, with_entries, new_table, run, replaced};
@@ -345,6 +345,14 @@ impl Store {
         ensures later { IsLater self.old self.new }
     {
         self.elements[e.0 as usize] = Items::new(self.alloc);
+    }
+
+    /// How many pages all memories have together.
+    pub fn pages(&self) -> u32
+        ensures value { result ≡ all_pages self.now.memories }
+        ensures few { result ≤ most_pages_in_all }
+    {
+        self.pages
     }
 
     /// Whether a memory with so many pages may be added.
