@@ -1,10 +1,9 @@
 -- A store after an instantiation.
-use Rattle.std.proofs.Common.{◌≡◌, ℕ, ◌+◌, ◌<◌, ◌≤◌, List, [], ◌∷◌, ◌++◌, length, refl, sym, ap, ◌∙◌, subst, arith}
-use Rattle.std.specs.Prelude.{true, Option, Some, None, Result, Ok, Err, map, slice_index_or}
+use Rattle.std.proofs.Common.{◌≡◌, ◌+◌, ◌<◌, List, [], ◌∷◌, ◌++◌, length, sym, ap, ◌∙◌, subst, arith}
+use Rattle.std.specs.Prelude.{true, Option, Result, map, slice_index_or}
 use Rattle.std.specs.List.{All, AllZip}
 use Rattle.std.proofs.lemmas.List.{get_or_push, length_push}
 use Rattle.std.proofs.lemmas.List.Elements.{All-cons, All-nil}
-use Rattle.wasm_syntax.specs.declared.instructions.BlockId.{BlockId}
 use Rattle.wasm_syntax.specs.declared.module.Module.{Module}
 use Rattle.wasm_syntax.specs.declared.trap.Trap.{Trap}
 use Rattle.wasm_syntax.specs.declared.value.Value.{Value}
@@ -19,7 +18,7 @@ use Rattle.wasm_store.specs.Laws.{ListsStay, FunctionOfIndex}
 use Rattle.wasm_store.specs.Store.{Store, no_module, module_at, instance_at, global_at, blank}
 use Rattle.wasm_store.specs.Whole.{IsWhole, IsLater, HasLists, HasGlobal}
 use Rattle.wasm_store.specs.Allocated.{instance_of, allocated, IsAllocated}
-use Rattle.wasm_instance.specs.Instantiation.{Outcome, init_segments, instantiated, start_of}
+use Rattle.wasm_instance.specs.Instantiation.{init_segments, instantiated, start_of}
 use Rattle.wasm_instance.specs.Laws.{AllHaveCode, IsStart}
 use Rattle.wasm_instance.specs.Parts.{Ends, SameCode, module_of, offset_in}
 use Rattle.wasm_instance.proofs.Callable.{code_stays, start_is}

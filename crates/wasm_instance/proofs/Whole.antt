@@ -1,9 +1,9 @@
 -- A module's things are added kind by kind, and then it is allocated.
 use Rattle.std.proofs.Common.{◌≡◌, ℕ, ◌+◌, ◌<◌, ◌≤◌, List, [], ◌∷◌, ◌++◌, length, refl, sym, ap, ◌∙◌, subst, append-nil, arith, length-append}
-use Rattle.std.specs.Prelude.{true, Some, slice_get, slice_index_or, slice_set, map, nat_le}
-use Rattle.std.specs.List.{All, AllZip, list_all}
+use Rattle.std.specs.Prelude.{true, slice_set, map, nat_le}
+use Rattle.std.specs.List.{All, list_all}
 use Rattle.std.proofs.Math.Seq.{set-append_seam}
-use Rattle.std.proofs.lemmas.List.{get_or_push, get_or-append-add, length_push}
+use Rattle.std.proofs.lemmas.List.{get_or_push, get_or-append-add}
 use Rattle.std.proofs.lemmas.List.Elements.{All-weaker, All-nil, All-cons}
 use Rattle.std.proofs.lemmas.Bool.{leb-true}
 use Rattle.wasm_syntax.specs.declared.types.TableType.{TableType}
@@ -207,7 +207,7 @@ module _ (s : Store) (a : ModuleAddr) (imports : Instance) where
   allocated_there t u i lists first same e made =
       made ∙ ap (λ (x : Store). with_instance i lists x) e ∙ ap (λ (j : Instance). with_instance i j with_all) same
       ∙ ap (λ (is : List Instance). record with_all { instances = is })
-          (ap (λ (n : ℕ). slice_set (s.instances ++ blank a ∷ []) n inst) first ∙ set-append_seam s.instances (blank a) [] inst)
+      (ap (λ (n : ℕ). slice_set (s.instances ++ blank a ∷ []) n inst) first ∙ set-append_seam s.instances (blank a) [] inst)
 
 pub blank_is_blank : (i : Instance) (a : ModuleAddr) → i ≡ blank a → IsBlank i
 blank_is_blank i a e = subst IsBlank (sym e) (record { funcs = refl; tables = refl; mems = refl; globals = refl; elems = refl; datas = refl })

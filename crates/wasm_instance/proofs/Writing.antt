@@ -1,20 +1,16 @@
 -- Segments one after the other.
-use Rattle.std.proofs.Common.{◌≡◌, ℕ, ◌+◌, ◌<◌, ◌≤◌, List, [], ◌∷◌, ◌++◌, length, take, drop, refl, sym, ap, ◌∙◌, subst, arith}
-use Rattle.std.specs.Prelude.{true, false, Bool, Option, Some, None, Result, Ok, Err, slice_get, slice_index_or, zero, suc, nat_le}
-use Rattle.std.specs.List.{All, AllZip}
-use Rattle.std.proofs.Math.Seq.{take-length, drop-length}
+use Rattle.std.proofs.Common.{◌≡◌, ℕ, ◌+◌, ◌<◌, List, [], ◌∷◌, length, drop, refl, sym, ap, ◌∙◌, subst, arith}
+use Rattle.std.specs.Prelude.{true, Some, Result, slice_get, slice_index_or, zero, suc}
+use Rattle.std.specs.List.{AllZip}
+use Rattle.std.proofs.Math.Seq.{drop-length}
 use Rattle.std.proofs.lemmas.List.{at_drop_more}
-use Rattle.std.proofs.lemmas.Option.{slice_get_within, get_or_from_slice_get, slice_get-get_or}
-use Rattle.std.proofs.lemmas.Bool.{le-leb, lt-leb}
+use Rattle.std.proofs.lemmas.Option.{slice_get_within, get_or_from_slice_get}
 use Rattle.wasm_syntax.specs.declared.instructions.BlockId.{BlockId}
-use Rattle.wasm_syntax.specs.declared.module.Mode.{Mode}
 use Rattle.wasm_syntax.specs.declared.module.Mode.TheVariants as mode
 use Rattle.wasm_syntax.specs.declared.module.Elem.{Elem}
 use Rattle.wasm_syntax.specs.declared.module.Data.{Data}
 use Rattle.wasm_syntax.specs.declared.module.Module.{Module}
-use Rattle.wasm_syntax.specs.declared.types.TableType.{TableType}
 use Rattle.wasm_syntax.specs.declared.trap.Trap.{Trap}
-use Rattle.wasm_syntax.specs.declared.trap.Trap.TheVariants as trap
 use Rattle.wasm_syntax.specs.declared.value.Value.{Value}
 use Rattle.wasm_syntax.specs.declared.addresses.TableAddr.{TableAddr}
 use Rattle.wasm_syntax.specs.declared.addresses.InstAddr.{InstAddr}
@@ -22,11 +18,11 @@ use Rattle.wasm_syntax.specs.declared.addresses.ElemAddr.{ElemAddr}
 use Rattle.wasm_syntax.specs.declared.addresses.DataAddr.{DataAddr}
 use Rattle.wasm_valid.specs.ModuleRules.{is_typed_module}
 use Rattle.wasm_store.specs.declared.instances.Instance.{Instance}
-use Rattle.wasm_store.specs.Store.{Store, no_module, blank, module_at, instance_at, table_at, element_at, with_table, with_element, replaced, run}
-use Rattle.wasm_store.specs.Whole.{IsLater, HasLists, HasElement, HasTable, AreTyped}
+use Rattle.wasm_store.specs.Store.{Store, no_module, blank, module_at, instance_at, table_at, element_at}
+use Rattle.wasm_store.specs.Whole.{IsLater, HasLists, HasElement, AreTyped}
 use Rattle.wasm_store.specs.Allocated.{table_addr}
 use Rattle.wasm_store.specs.Laws.{TableOfIndex, ElementOfIndex}
-use Rattle.wasm_instance.specs.Instantiation.{Outcome, goes, traps, and_then, write_element, fits, table_of, init_element, init_elements, init_datas, init_segments}
+use Rattle.wasm_instance.specs.Instantiation.{Outcome, goes, traps, and_then, table_of, init_element, init_elements, init_datas, init_segments}
 use Rattle.wasm_instance.specs.Parts.{Ends, SameCode, module_of, offset_in}
 use Rattle.wasm_instance.proofs.Rules.{table_is_there}
 
@@ -35,20 +31,6 @@ zip_length R [] [] h = refl
 zip_length R [] (y ∷ ys) h = absurd h
 zip_length R (x ∷ xs) [] h = absurd h
 zip_length R (x ∷ xs) (y ∷ ys) h = ap suc (zip_length R xs ys h.1)
-
--- One whole segment.
-
-pub written_whole : (s t new : Store) (a : TableAddr) (e : ElemAddr) (at n : ℕ) → n ≡ length (element_at s e) → at + n ≤ length (table_at s a).entries → t ≡ with_table a (replaced at n (run (element_at s e) 0 n) (table_at s a)) s → new ≡ with_element e [] t → write_element (fits (table_at s a).entries at (length (element_at s e))) s a e at ≡ goes new
-written_whole s t new a e at n count within written dropped =
-    let items : List Value = element_at s e in
-    let test : fits (table_at s a).entries at (length items) ≡ true = le-leb (at + length items) (length (table_at s a).entries) (omega (arith, count, within)) in
-    let whole : run items 0 n ≡ items = ap (λ (k : ℕ). run items 0 k) count ∙ take-length items in
-    ap (λ (b : Bool). write_element b s a e at) test
-    ∙ ap goes (sym (dropped ∙ ap (λ (x : Store). with_element e [] x) (written ∙ ap (λ (vs : List Value). with_table a (replaced at n vs (table_at s a)) s) whole ∙ ap (λ (k : ℕ). with_table a (replaced at k items (table_at s a)) s) count)))
-
-pub trapped_whole : (s new : Store) (a : TableAddr) (e : ElemAddr) (at : ℕ) → length (table_at s a).entries < at + length (element_at s e) → new ≡ s → write_element (fits (table_at s a).entries at (length (element_at s e))) s a e at ≡ traps trap.TableRange new
-trapped_whole s new a e at past same =
-    ap (λ (b : Bool). write_element b s a e at) (lt-leb (at + length (element_at s e)) (length (table_at s a).entries) past) ∙ ap (traps trap.TableRange) (sym same)
 
 -- What an active segment names.
 

@@ -1,10 +1,10 @@
-use Rattle.std.proofs.Common.{◌≡◌, ◌≤◌, ◌<◌, ℕ, List, length, refl, sym, ap, ◌∙◌, subst, arith}
+use Rattle.std.proofs.Common.{◌≡◌, List, length, ap, ◌∙◌, subst}
 use Rattle.std.specs.Prelude.{Option, Some, slice_get}
 use Rattle.std.proofs.lemmas.Option.{slice_get_within}
 use Rattle.wasm_syntax.specs.declared.types.TableType.{TableType}
 use Rattle.wasm_syntax.specs.declared.value.Value.{Value}
 use Rattle.wasm_syntax.specs.declared.addresses.TableAddr.{TableAddr}
-use Rattle.wasm_store.specs.Store.{Store, TableInst, module_at, new_table, with_new_table, most_entries}
+use Rattle.wasm_store.specs.Store.{Store, TableInst, module_at, new_table, with_new_table}
 use Rattle.wasm_store.specs.Growth.{NewTable}
 use Rattle.wasm_store.specs.Allocated.{tables_from, null_of, table_addr}
 use Rattle.wasm_instance.proofs.Adding.{tables_more, address_more, count_taken, table_at_place}

@@ -1,4 +1,4 @@
-use Rattle.std.proofs.Common.{◌≡◌, ◌^◌, ◌+◌, ◌<◌, ℕ, length, refl, sym, ap, ◌∙◌, subst, arith}
+use Rattle.std.proofs.Common.{◌≡◌, ◌^◌, ◌<◌, length, sym, ◌∙◌, subst, arith}
 use Rattle.std.specs.Prelude.{true, Some, slice_get}
 use Rattle.wasm_syntax.specs.declared.module.Module.{Module}
 use Rattle.wasm_valid.specs.ModuleRules.{is_typed_module}

@@ -1,10 +1,7 @@
 use Rattle.std.proofs.Common.{◌≡◌, sym, ◌∙◌, subst}
-use Rattle.std.specs.Prelude.{Some, slice_get}
-use Rattle.wasm_syntax.specs.declared.module.Mode.{Mode}
 use Rattle.wasm_syntax.specs.declared.module.Mode.TheVariants as mode
 use Rattle.wasm_syntax.specs.declared.addresses.TableAddr.{TableAddr}
 use Rattle.wasm_store.specs.Store.{instance_at}
-use Rattle.wasm_instance.specs.Instantiation.{table_of}
 use Rattle.wasm_instance.proofs.Writing.{Names, names_active, segment_there, segment_live}
 use Rattle.wasm_instance.proofs.segments.write_segment.Goals as goal
 

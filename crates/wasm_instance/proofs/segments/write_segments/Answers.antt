@@ -1,11 +1,11 @@
-use Rattle.std.proofs.Common.{◌≡◌, ◌<◌, ◌≤◌, length, refl, sym, ap, ◌∙◌, subst, arith}
-use Rattle.std.specs.Prelude.{Some, Result, Ok, Err, slice_get}
+use Rattle.std.proofs.Common.{◌≡◌, ◌<◌, ◌≤◌, length, sym, ap, ◌∙◌, subst, arith}
+use Rattle.std.specs.Prelude.{Result, Ok, Err}
 use Rattle.std.proofs.lemmas.Result.{err_from_is_err_and}
 use Rattle.wasm_syntax.specs.declared.trap.Trap.{Trap}
 use Rattle.wasm_store.specs.declared.instances.Instance.{Instance}
 use Rattle.wasm_store.specs.Store.{Store, instance_at}
 use Rattle.wasm_instance.specs.Instantiation.{init_segments}
-use Rattle.wasm_instance.specs.Parts.{Ends, SameCode, module_of, offset_in}
+use Rattle.wasm_instance.specs.Parts.{Ends, module_of, offset_in}
 use Rattle.wasm_instance.proofs.Writing.{step_ends, same_code, left_next, left_traps, left_none}
 use Rattle.wasm_instance.proofs.segments.write_segments.Goals as goal
 
