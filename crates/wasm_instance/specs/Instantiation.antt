@@ -83,14 +83,18 @@ init_data i offset d (mode.Active x id) s =
 init_data i offset d mode.Passive s = goes s
 init_data i offset d mode.Declared s = goes s
 
--- the segments of a module one after the other, where these are their addresses
-abbrev pub init_elements : Instance → (BlockId → ℕ) → List ElemAddr → List Elem → Store → Outcome
-init_elements i offset (e ∷ es) (segment ∷ segments) s = and_then (init_element i offset e segment.mode s) (init_elements i offset es segments)
-init_elements i offset _ _ s = goes s
+-- one after the other, each with its partner, up to the first trap
+abbrev pub in_order : {A B : Type 0} → (A → B → Store → Outcome) → List A → List B → Store → Outcome
+in_order f (x ∷ xs) (y ∷ ys) s = and_then (f x y s) (in_order f xs ys)
+in_order f _ _ s = goes s
 
-abbrev pub init_datas : Instance → (BlockId → ℕ) → List DataAddr → List Data → Store → Outcome
-init_datas i offset (d ∷ ds) (segment ∷ segments) s = and_then (init_data i offset d segment.mode s) (init_datas i offset ds segments)
-init_datas i offset _ _ s = goes s
+-- the element segments of an instance of the module m
+abbrev pub init_elements : Module → Instance → (BlockId → ℕ) → Store → Outcome
+init_elements m i offset s = in_order (λ (e : ElemAddr) (segment : Elem). init_element i offset e segment.mode) i.elems m.elems s
+
+-- its data segments
+abbrev pub init_datas : Module → Instance → (BlockId → ℕ) → Store → Outcome
+init_datas m i offset s = in_order (λ (d : DataAddr) (segment : Data). init_data i offset d segment.mode) i.datas m.datas s
 
 -- an offset is an i32
 abbrev pub number_of : Value → ℕ
@@ -100,9 +104,9 @@ number_of _ = 0
 abbrev pub offset_of : ModuleAddr → Instance → Store → BlockId → ℕ
 offset_of a imports s id = number_of (value_of a imports s id)
 
--- the element segments and then the data segments of a new instance i of the module m
+-- the element segments and then the data segments
 abbrev pub init_segments : Module → Instance → (BlockId → ℕ) → Store → Outcome
-init_segments m i offset s = and_then (init_elements i offset i.elems m.elems s) (init_datas i offset i.datas m.datas)
+init_segments m i offset s = and_then (init_elements m i offset s) (init_datas m i offset)
 
 -- the module at a with these imports, instantiated in a store
 abbrev pub instantiated : ModuleAddr → Instance → Store → Outcome

@@ -115,7 +115,7 @@ fn write_segment(store: &mut Store, i: InstAddr, values: &[Value], k: usize) -> 
 fn write_elements(store: &mut Store, i: InstAddr, values: &[Value]) -> Result<(), Trap>
     requires live { i.0 < length store.old.instances }
     requires lists { HasLists store.old (instance_at store.old i) }
-    ensures ends { Ends (init_elements (instance_at store.old i) (offset_in (module_of store.old i) (instance_at store.old i) values.now) (instance_at store.old i).elems (module_of store.old i).elems store.old) result store.new }
+    ensures ends { Ends (init_elements (module_of store.old i) (instance_at store.old i) (offset_in (module_of store.old i) (instance_at store.old i) values.now) store.old) result store.new }
     ensures same { SameCode store.old store.new }
     ensures later { IsLater store.old store.new }
 {
@@ -214,7 +214,7 @@ fn write_data_segment(
 fn write_datas(store: &mut Store, i: InstAddr, values: &[Value]) -> Result<(), Trap>
     requires live { i.0 < length store.old.instances }
     requires lists { HasLists store.old (instance_at store.old i) }
-    ensures ends { Ends (init_datas (instance_at store.old i) (offset_in (module_of store.old i) (instance_at store.old i) values.now) (instance_at store.old i).datas (module_of store.old i).datas store.old) result store.new }
+    ensures ends { Ends (init_datas (module_of store.old i) (instance_at store.old i) (offset_in (module_of store.old i) (instance_at store.old i) values.now) store.old) result store.new }
     ensures same { SameCode store.old store.new }
     ensures later { IsLater store.old store.new }
 {

@@ -67,6 +67,16 @@ impl Memory {
         self.max
     }
 
+    /// Its type, with the size that it has.
+    pub fn ty(&self) -> Limit
+        ensures { result ≡ memory_type_of self.now }
+    {
+        Limit {
+            min: self.pages(),
+            max: self.max,
+        }
+    }
+
     /// So many pages more, all zero. Where there is no memory for it, nothing changes.
     pub fn grow(&mut self, pages: u32) -> Result<(), AllocError>
         requires { pages_of self.old + pages ≤ most_pages }
