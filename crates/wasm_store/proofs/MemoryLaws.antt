@@ -112,11 +112,12 @@ module _ (s now : Store) (count : ℕ) (a : MemAddr) (t u : MemInst) (view : s �
   -- n pages more
   pub grown_after : (n : ℕ) → u ≡ grown_memory n t → may_grow_memory s (memory_at s a) n ≡ true → MemoryAfter s now (count + n) a u
   grown_after n made may =
-      let few = left_true (nat_le (pages_of (memory_at s a) + n) (unwrap_or (memory_at s a).max most_pages)) _ may in
-      let rest = right_true (nat_le (pages_of (memory_at s a) + n) (unwrap_or (memory_at s a).max most_pages)) _ may in
-      let within : pages_of t + n ≤ unwrap_or t.max most_pages = subst (λ (m : MemInst). pages_of m + n ≤ unwrap_or m.max most_pages) (sym is_here) (leb-true _ _ few) in
-      let most : pages_of t + n ≤ most_pages = subst (λ (m : MemInst). pages_of m + n ≤ most_pages) (sym is_here) (leb-true _ _ (left_true _ _ rest)) in
-      let in_all : all_pages s.memories + n ≤ most_pages_in_all = leb-true _ _ (right_true _ _ rest) in
+      let each = left_true (nat_le (pages_of (memory_at s a) + n) (unwrap_or (memory_at s a).max most_pages) && nat_le (pages_of (memory_at s a) + n) most_pages) (nat_le (all_pages s.memories + n) most_pages_in_all) may in
+      let within_here = leb-true (pages_of (memory_at s a) + n) (unwrap_or (memory_at s a).max most_pages) (left_true (nat_le (pages_of (memory_at s a) + n) (unwrap_or (memory_at s a).max most_pages)) (nat_le (pages_of (memory_at s a) + n) most_pages) each) in
+      let most_here = leb-true (pages_of (memory_at s a) + n) most_pages (right_true (nat_le (pages_of (memory_at s a) + n) (unwrap_or (memory_at s a).max most_pages)) (nat_le (pages_of (memory_at s a) + n) most_pages) each) in
+      let within : pages_of t + n ≤ unwrap_or t.max most_pages = subst (λ (m : MemInst). pages_of m + n ≤ unwrap_or m.max most_pages) (sym is_here) within_here in
+      let most : pages_of t + n ≤ most_pages = subst (λ (m : MemInst). pages_of m + n ≤ most_pages) (sym is_here) most_here in
+      let in_all : all_pages s.memories + n ≤ most_pages_in_all = leb-true (all_pages s.memories + n) most_pages_in_all (right_true (nat_le (pages_of (memory_at s a) + n) (unwrap_or (memory_at s a).max most_pages) && nat_le (pages_of (memory_at s a) + n) most_pages) (nat_le (all_pages s.memories + n) most_pages_in_all) may) in
       let pages : pages_of u ≡ pages_of (memory_at s a) + n = ap pages_of made ∙ pages_grown n t ∙ ap (λ (m : MemInst). pages_of m + n) is_here in
       let all : all_pages (slice_set s.memories a.0 u) ≡ all_pages s.memories + n = all_grown s.memories a.0 u no_memory n live_here pages in
       let size : length u.bytes ≡ length t.bytes + n * page_size = ap (λ (m : MemInst). length m.bytes) made ∙ length_grown n t in

@@ -385,11 +385,7 @@ impl Store {
     }
 
     /// Adds a data segment.
-    pub fn alloc_data(
-        &mut self,
-        _alloc: Global,
-        bytes: Items<u8>,
-    ) -> Result<DataAddr, AllocError>
+    pub fn alloc_data(&mut self, _alloc: Global, bytes: Items<u8>) -> Result<DataAddr, AllocError>
         ensures address { IfOk result (λ d. d.0 ≡ length self.old.datas) }
         ensures added { OnOk result (self.new ≡ with_new_data bytes self.old) }
         ensures refused { OnErr result (self.new ≡ self.old) }

@@ -6,8 +6,7 @@ pub invariant_of-self-2 : goal.invariant_of-self-2
 invariant_of-self-2 c =
     record {
       whole = (
- rw c.in_ok-push.ensures.items (whole_module c.args.m (store_of c.self.inside) c.self.invariant.whole)
-      );
+          rw c.in_ok-push.ensures.items (whole_module c.args.m (store_of c.self.inside) c.self.invariant.whole)
+          );
       count = c.self.invariant.count;
     }
-

@@ -9,9 +9,8 @@ pub invariant_of-self-2 : goal.invariant_of-self-2
 invariant_of-self-2 c =
     record {
       whole = (
-    rw c.in_ok-push.ensures.items
-    (whole_function c.args.f (store_of c.self.inside) c.self.invariant.whole (subst (λ (s : Store). IsFunction s c.args.f) (sym c.self.view_is) c.requires.fits))
-      );
+          rw c.in_ok-push.ensures.items
+          (whole_function c.args.f (store_of c.self.inside) c.self.invariant.whole (subst (λ (s : Store). IsFunction s c.args.f) (sym c.self.view_is) c.requires.fits))
+          );
       count = c.self.invariant.count;
     }
-

@@ -8,10 +8,9 @@ pub invariant_of-self-2 : goal.invariant_of-self-2
 invariant_of-self-2 c =
     record {
       whole = (
-    rw c.in_ok-push.ensures.items
-    (whole_new_instance c.args.i (store_of c.self.inside) c.self.invariant.whole
-    (subst (λ (s : Store). c.args.i.module.0 < length s.modules) (sym c.self.view_is) c.requires.live) c.requires.blank)
-      );
+          rw c.in_ok-push.ensures.items
+          (whole_new_instance c.args.i (store_of c.self.inside) c.self.invariant.whole
+          (subst (λ (s : Store). c.args.i.module.0 < length s.modules) (sym c.self.view_is) c.requires.live) c.requires.blank)
+          );
       count = c.self.invariant.count;
     }
-

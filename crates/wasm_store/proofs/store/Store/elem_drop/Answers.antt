@@ -6,8 +6,7 @@ pub invariant_of-self : goal.invariant_of-self
 invariant_of-self c =
     record {
       whole = (
- rw c.new.ensures (whole_dropped c.args.e (store_of c.self.inside) c.self.invariant.whole)
-      );
+          rw c.new.ensures (whole_dropped c.args.e (store_of c.self.inside) c.self.invariant.whole)
+          );
       count = c.self.invariant.count;
     }
-

@@ -19,11 +19,10 @@ pub invariant_of-self : goal.invariant_of-self
 invariant_of-self c =
     record {
       whole = (
- subst (λ (ts : List TableInst). IsWhole (record (store_of c.self.inside) { tables = ts })) (sym (items_are c)) (done_ c).whole
-      );
+          subst (λ (ts : List TableInst). IsWhole (record (store_of c.self.inside) { tables = ts })) (sym (items_are c)) (done_ c).whole
+          );
       count = c.self.invariant.count;
     }
-
 
 pub returns-clause-later : goal.returns-clause-later
 returns-clause-later c = subst (λ (ts : List TableInst). IsLater c.args.self.now (record (store_of c.self.inside) { tables = ts })) (sym (items_are c)) (done_ c).later

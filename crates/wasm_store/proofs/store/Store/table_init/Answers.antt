@@ -26,11 +26,10 @@ pub invariant_of-self : goal.invariant_of-self
 invariant_of-self c =
     record {
       whole = (
- (done_ c).whole
-      );
+          (done_ c).whole
+          );
       count = c.self.invariant.count;
     }
-
 
 pub returns-clause-later : goal.returns-clause-later
 returns-clause-later c = (done_ c).later
