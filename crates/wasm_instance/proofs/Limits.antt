@@ -1,6 +1,6 @@
 -- How many pages the memories of a store have together with those of a module.
 use Rattle.std.proofs.Common.{◌≡◌, ℕ, ◌+◌, ◌*◌, ◌/◌, ◌<◌, ◌≤◌, List, [], ◌∷◌, ◌++◌, length, take, drop, refl, sym, ap, ◌∙◌, subst, arith, append-nil, append_assoc}
-use Rattle.std.specs.Prelude.{true, false, Bool, ◌&&◌, nat_le, slice_get, slice_index_or, Some, map, zero, suc}
+use Rattle.std.specs.Prelude.{true, false, Bool, ◌&&◌, nat_le, slice_get, slice_index_or, Some, None, map, zero, suc}
 use Rattle.std.specs.List.{list_all}
 use Rattle.std.proofs.Math.Seq.{take-length}
 use Rattle.std.proofs.lemmas.List.{length-replicate, take_more, take-map}
@@ -9,7 +9,9 @@ use Rattle.std.proofs.lemmas.Bool.{leb-true, le-leb, lt-leb}
 use Rattle.wasm_syntax.specs.declared.types.Limit.{Limit}
 use Rattle.raw_memory.specs.Bytes.{page_size, most_pages}
 use Rattle.wasm_store.specs.Store.{Store, MemInst}
-use Rattle.wasm_store.specs.Memories.{pages_of, all_pages, new_memory, most_pages_in_all}
+use Rattle.std.proofs.lemmas.Option.{slice_get_within, get_or_from_slice_get}
+use Rattle.wasm_store.specs.Memories.{pages_of, all_pages, new_memory, most_pages_in_all, may_have_memory, NewMemory}
+use Rattle.wasm_instance.specs.Parts.{with_memories}
 use Rattle.wasm_store.specs.Allocated.{memories_from}
 use Rattle.wasm_instance.specs.Instantiation.{are_memories_within}
 use Rattle.wasm_instance.proofs.Rules.{left_true, right_true}
@@ -124,3 +126,15 @@ may_have_next s limits k limit within at h read =
     let joined : all_pages (s.memories ++ take k (memories_from limits)) ≡ all_pages s.memories + sum_of (take k limits) =
     all_joined s.memories (take k (memories_from limits)) ∙ ap (λ (ms : List MemInst). all_pages s.memories + all_pages ms) (take-map new_memory k limits) in
     (subst (λ (l : Limit). l.min ≤ most_pages) (sym read) (small_at limits k limit w.small h), omega (arith, more, all, few, joined))
+
+pub next_may_be_had : (s t : Store) (limits : List Limit) (k : ℕ) (limit : Limit) → are_memories_within s limits ≡ true → slice_get limits k ≡ Some limit → t ≡ with_memories (take k (memories_from limits)) s → may_have_memory t limit ≡ true
+next_may_be_had s t limits k limit within at e =
+    let here : k < length limits = slice_get_within limits k limit at in
+    let next = may_have_next s limits k limit within at here (sym (get_or_from_slice_get limits k limit limit at)) in
+    subst (λ (x : Store). may_have_memory x limit ≡ true) (sym e)
+    (ap (λ (b : Bool). b && nat_le (all_pages (s.memories ++ take k (memories_from limits)) + limit.min) most_pages_in_all) (le-leb limit.min most_pages next.0)
+    ∙ le-leb (all_pages (s.memories ++ take k (memories_from limits)) + limit.min) most_pages_in_all next.1)
+
+-- a memory that may be had isn't refused
+pub not_refused : (s t : Store) (limit : Limit) → may_have_memory s limit ≡ true → NewMemory limit s t None → ⊥
+not_refused s t limit may refused = absurd (let e : true ≡ false = sym may ∙ refused.0 in cc)

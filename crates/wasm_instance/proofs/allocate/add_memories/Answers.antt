@@ -6,6 +6,7 @@ use Rattle.wasm_syntax.specs.declared.addresses.MemAddr.{MemAddr}
 use Rattle.wasm_store.specs.Store.{Store, MemInst, module_at}
 use Rattle.wasm_store.specs.Memories.{NewMemory, new_memory}
 use Rattle.wasm_store.specs.Allocated.{memories_from, mem_addr}
+use Rattle.wasm_instance.proofs.Limits.{next_may_be_had, not_refused}
 use Rattle.wasm_instance.proofs.Adding.{memories_more, address_more, count_taken, memory_at_place}
 use Rattle.wasm_instance.proofs.allocate.add_memories.Goals as goal
 
@@ -27,3 +28,12 @@ loop-k-preserved c =
           c.in_ok-push-in-Some.ensures.ok;
       later = c.order.ensures.through s c.loop-k.store c.alloc_memory.new.self c.loop-k.invariant.later c.in_ok-address.ensures.later;
     }
+
+pub unreachable-requires : goal.unreachable-requires
+unreachable-requires c =
+    let s : Store = c.args.store.now in
+    let limit : Limit = c.memory_type-limit.result in
+    let at : slice_get (module_at s c.args.a).mems c.loop-k.k ≡ Some limit =
+    subst (λ (t : Store). slice_get (module_at t c.args.a).mems c.loop-k.k ≡ Some limit) c.loop-k.invariant.added c.memory_type-limit.ensures.value in
+    not_refused c.loop-k.store c.alloc_memory.new.self limit (next_may_be_had s c.loop-k.store (module_at s c.args.a).mems c.loop-k.k limit c.requires.limits at c.loop-k.invariant.added)
+    (subst (λ (o : Option MemAddr). NewMemory limit c.loop-k.store c.alloc_memory.new.self o) c.in-None.is c.in_ok-address.ensures.added)
