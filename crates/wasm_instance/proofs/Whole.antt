@@ -1,5 +1,5 @@
 -- A module's things are added kind by kind, and then it is allocated.
-use Rattle.std.proofs.Common.{◌≡◌, ℕ, ◌+◌, ◌<◌, ◌≤◌, List, [], ◌∷◌, ◌++◌, length, refl, sym, ap, ◌∙◌, subst, append-nil, arith, length-append}
+use Rattle.std.proofs.Common.{◌≡◌, ℕ, ◌+◌, ◌<◌, ◌≤◌, List, [], ◌∷◌, ◌++◌, length, refl, sym, ap, ◌∙◌, subst, arith, length-append}
 use Rattle.std.specs.Prelude.{true, slice_set, map, nat_le}
 use Rattle.std.specs.List.{All, list_all}
 use Rattle.std.proofs.Math.Seq.{set-append_seam}
@@ -8,7 +8,6 @@ use Rattle.std.proofs.lemmas.List.Elements.{All-weaker, All-nil, All-cons}
 use Rattle.std.proofs.lemmas.Bool.{leb-true}
 use Rattle.wasm_syntax.specs.declared.types.TableType.{TableType}
 use Rattle.wasm_syntax.specs.declared.types.Limit.{Limit}
-use Rattle.wasm_syntax.specs.declared.module.Data.{Data}
 use Rattle.wasm_syntax.specs.declared.module.Module.{Module}
 use Rattle.wasm_syntax.specs.declared.instructions.BlockId.{BlockId}
 use Rattle.wasm_syntax.specs.declared.value.Value.{Value}
@@ -25,7 +24,7 @@ use Rattle.raw_memory.specs.Bytes.{most_pages}
 use Rattle.wasm_valid.specs.ModuleRules.{is_typed_module}
 use Rattle.wasm_store.specs.declared.instances.Instance.{Instance}
 use Rattle.wasm_store.specs.declared.instances.GlobalInst.{GlobalInst}
-use Rattle.wasm_store.specs.Store.{Store, MemInst, module_at, instance_at, global_at, blank, most_entries, with_new_instance, with_instance}
+use Rattle.wasm_store.specs.Store.{Store, module_at, instance_at, global_at, blank, most_entries, with_new_instance, with_instance}
 use Rattle.wasm_store.specs.Whole.{IsWhole, IsLive, AreLive, IsGlobal, IsBlank, HasLists}
 use Rattle.wasm_store.specs.Allocated.{fresh, func_addr, table_addr, mem_addr, global_addr, elem_addr, data_addr, instance_of, value_of, functions_of, tables_from, memories_from, globals_from, elements_from, allocated, AreImports, IsAllocated, ModulesAreAllocated}
 use Rattle.wasm_instance.specs.Instantiation.{are_tables_within, are_memories_within, is_within_limits}

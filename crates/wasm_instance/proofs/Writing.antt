@@ -1,6 +1,6 @@
 -- Segments one after the other.
 use Rattle.std.proofs.Common.{◌≡◌, ℕ, ◌+◌, ◌<◌, List, [], ◌∷◌, length, drop, refl, sym, ap, ◌∙◌, subst, arith}
-use Rattle.std.specs.Prelude.{true, Some, Result, Ok, Err, slice_get, slice_index_or, zero, suc}
+use Rattle.std.specs.Prelude.{true, Some, Result, slice_get, slice_index_or, zero, suc}
 use Rattle.std.specs.List.{AllZip}
 use Rattle.std.proofs.Math.Seq.{drop-length}
 use Rattle.std.proofs.lemmas.List.{at_drop_more}
@@ -10,9 +10,7 @@ use Rattle.wasm_syntax.specs.declared.module.Mode.TheVariants as mode
 use Rattle.wasm_syntax.specs.declared.module.Elem.{Elem}
 use Rattle.wasm_syntax.specs.declared.module.Data.{Data}
 use Rattle.wasm_syntax.specs.declared.module.Module.{Module}
-use Rattle.wasm_syntax.specs.declared.types.Limit.{Limit}
 use Rattle.wasm_syntax.specs.declared.trap.Trap.{Trap}
-use Rattle.wasm_syntax.specs.declared.value.Value.{Value}
 use Rattle.wasm_syntax.specs.declared.addresses.TableAddr.{TableAddr}
 use Rattle.wasm_syntax.specs.declared.addresses.MemAddr.{MemAddr}
 use Rattle.wasm_syntax.specs.declared.addresses.InstAddr.{InstAddr}
@@ -26,7 +24,7 @@ use Rattle.wasm_store.specs.Whole.{IsLater, HasLists, HasElement, HasData, AreTy
 use Rattle.wasm_store.specs.Allocated.{table_addr, mem_addr}
 use Rattle.wasm_store.specs.Laws.{TableOfIndex, ElementOfIndex, MemoryOfIndex, DataOfIndex}
 use Rattle.wasm_instance.specs.Instantiation.{Outcome, goes, traps, and_then, table_of, memory_of, in_order, init_elements, init_datas, init_segments}
-use Rattle.wasm_instance.specs.Parts.{Ends, SameCode, module_of, offset_in}
+use Rattle.wasm_instance.specs.Parts.{Ends, SameCode, module_of}
 use Rattle.wasm_instance.proofs.Rules.{table_is_there, memory_is_there}
 
 pub zip_length : {A B : Type 0} (R : A → B → Type 0) (xs : List A) (ys : List B) → AllZip R xs ys → length xs ≡ length ys

@@ -310,12 +310,7 @@ fn data_at(module: &Module, k: usize) -> &Data
 }
 
 /// The bytes of one of the module's data segments.
-fn own_bytes(
-    alloc: Global,
-    store: &Store,
-    a: ModuleAddr,
-    k: usize,
-) -> Result<Items<u8>, AllocError>
+fn own_bytes(alloc: Global, store: &Store, a: ModuleAddr, k: usize) -> Result<Items<u8>, AllocError>
     requires live { a.0 < length store.now.modules }
     requires within { k < length (module_at store.now a).datas }
     ensures { IfOk result (λ bytes. slice_get (datas_from (module_at store.now a).datas) k ≡ Some bytes) }

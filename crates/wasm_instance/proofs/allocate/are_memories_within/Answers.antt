@@ -17,7 +17,7 @@ returns-then-limit-gt-MOST_PAGES c =
     let limit : Limit = slice_index_or c.args.limits.now c.loop-limit.limit-index no_limit in
     counted_past c.args.store.now c.args.limits.now c.loop-limit.limit-index c.loop-limit.pages limit c.loop-limit-test.true (read c.args.limits.now c.loop-limit.limit-index c.loop-limit-test.true) c.loop-limit.invariant
     (λ small few. elim c.then-limit-gt-MOST_PAGES.branch [
-      then-limit-gt-MOST_PAGES-via-then-limit-gt-MOST_PAGES w ↦ omega (arith, small, few, w.if-limit-gt-MOST_PAGES.true)
+      | then-limit-gt-MOST_PAGES-via-then-limit-gt-MOST_PAGES w ↦ omega (arith, small, few, w.if-limit-gt-MOST_PAGES.true)
       | then-limit-gt-MOST_PAGES-via-else-limit-gt-MOST_PAGES+then-pages-limit-gt-MOST_PAGES_IN_ALL w ↦ omega (arith, small, few, w.if-pages-limit-gt-MOST_PAGES_IN_ALL.true)
     ])
 
