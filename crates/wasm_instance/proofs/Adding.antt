@@ -17,9 +17,11 @@ use Rattle.wasm_syntax.specs.declared.addresses.InstAddr.{InstAddr}
 use Rattle.wasm_store.specs.declared.instances.FuncInst.{FuncInst}
 use Rattle.wasm_store.specs.declared.instances.FuncInst.TheVariants as f
 use Rattle.wasm_store.specs.declared.instances.GlobalInst.{GlobalInst}
-use Rattle.wasm_store.specs.Store.{Store, TableInst, new_table, with_function, with_new_table, with_new_global, with_new_element}
-use Rattle.wasm_store.specs.Allocated.{fresh, functions_of, type_with, null_of, tables_from, new_global, globals_from, new_items, elements_from}
-use Rattle.wasm_instance.specs.Parts.{with_functions, with_tables, with_globals, with_elements}
+use Rattle.wasm_store.specs.Store.{Store, TableInst, MemInst, new_table, with_function, with_new_table, with_new_global, with_new_element}
+use Rattle.wasm_store.specs.Allocated.{memories_from, fresh, functions_of, type_with, null_of, tables_from, new_global, globals_from, new_items, elements_from}
+use Rattle.wasm_syntax.specs.declared.types.Limit.{Limit}
+use Rattle.wasm_store.specs.Memories.{new_memory, with_new_memory, with_new_data}
+use Rattle.wasm_instance.specs.Parts.{with_memories, with_datas, with_functions, with_tables, with_globals, with_elements}
 
 pub take_next : {A : Type 0} (xs : List A) (k : ℕ) (x : A) → slice_get xs k ≡ Some x → take (k + 1) xs ≡ take k xs ++ x ∷ []
 take_next {A} xs k x e = take_more xs k x (slice_get_within xs k x e) ∙ ap (λ (y : A). take k xs ++ y ∷ []) (get_or_from_slice_get xs k x x e)
@@ -89,6 +91,14 @@ elements_all s t gs k h l e = e ∙ ap (λ (hs : List (List Value)). record s { 
 pub elements_none : (s : Store) (gs : List (List Value)) → s ≡ with_elements (take 0 gs) s
 elements_none s gs = ap (λ (hs : List (List Value)). record s { elements = hs }) (none_taken s.elements gs)
 
+pub memories_more : (s t u : Store) (gs : List MemInst) (k : ℕ) (g : MemInst) → t ≡ with_memories (take k gs) s → slice_get gs k ≡ Some g → u ≡ with_new_memory g t → u ≡ with_memories (take (k + 1) gs) s
+memories_more s t u gs k g e at made =
+    made ∙ ap (λ (x : Store). with_new_memory g x) e ∙ ap (λ (hs : List MemInst). record s { memories = hs }) (joined_more s.memories gs k g at)
+
+pub datas_more : (s t u : Store) (gs : List (List ℕ)) (k : ℕ) (g : List ℕ) → t ≡ with_datas (take k gs) s → slice_get gs k ≡ Some g → u ≡ with_new_data g t → u ≡ with_datas (take (k + 1) gs) s
+datas_more s t u gs k g e at made =
+    made ∙ ap (λ (x : Store). with_new_data g x) e ∙ ap (λ (hs : List (List ℕ)). record s { datas = hs }) (joined_more s.datas gs k g at)
+
 -- What stands at a place of the lists.
 
 pub function_at_place : (m : Module) (j : InstAddr) (x : ℕ) (gs : List Func) (k : ℕ) (g : Func) → slice_get gs k ≡ Some g → slice_get (functions_of m j x gs) k ≡ Some (f.Wasm (type_with m g.ty) j (x + k))
@@ -113,6 +123,9 @@ length_functions m j x (g ∷ gs) = ap suc (length_functions m j (suc x) gs)
 pub table_at_place : (tys : List TableType) (k : ℕ) (ty : TableType) → slice_get tys k ≡ Some ty → slice_get (tables_from tys) k ≡ Some (new_table ty (null_of ty.elem))
 table_at_place tys k ty e =
     slice_get-map (λ (ty : TableType). new_table ty (null_of ty.elem)) tys k ∙ ap (option_map (λ (ty : TableType). new_table ty (null_of ty.elem))) e
+
+pub memory_at_place : (limits : List Limit) (k : ℕ) (limit : Limit) → slice_get limits k ≡ Some limit → slice_get (memories_from limits) k ≡ Some (new_memory limit)
+memory_at_place limits k limit e = slice_get-map new_memory limits k ∙ ap (option_map new_memory) e
 
 pub global_at_place : (value : BlockId → Value) (defs : List GlobalDef) (k : ℕ) (g : GlobalDef) → slice_get defs k ≡ Some g → slice_get (globals_from value defs) k ≡ Some (new_global value g)
 global_at_place value defs k g e = slice_get-map (new_global value) defs k ∙ ap (option_map (new_global value)) e

@@ -1,4 +1,5 @@
 pub mod Rules
+pub mod Limits
 pub mod Adding
 pub mod Whole
 pub mod Writing

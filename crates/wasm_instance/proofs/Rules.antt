@@ -1,5 +1,5 @@
 -- What a typed module's rules say of its parts.
-use Rattle.std.proofs.Common.{◌≡◌, ℕ, ◌^◌, ◌<◌, List, [], ◌∷◌, length, refl, sym, ap, ◌∙◌}
+use Rattle.std.proofs.Common.{◌≡◌, ℕ, ◌^◌, ◌<◌, List, [], ◌∷◌, length, refl, sym, ap, ◌∙◌, subst}
 use Rattle.std.specs.Prelude.{true, false, Bool, ◌&&◌, Option, Some, None, slice_get, zero, suc}
 use Rattle.std.specs.List.{list_all}
 use Rattle.std.proofs.lemmas.Bool.{ltb-true}
@@ -12,9 +12,11 @@ use Rattle.wasm_syntax.specs.declared.module.Func.{Func}
 use Rattle.wasm_syntax.specs.declared.module.Mode.{Mode}
 use Rattle.wasm_syntax.specs.declared.module.Mode.TheVariants as mode
 use Rattle.wasm_syntax.specs.declared.module.Elem.{Elem}
+use Rattle.wasm_syntax.specs.declared.module.Data.{Data}
+use Rattle.wasm_syntax.specs.declared.types.Limit.{Limit}
 use Rattle.wasm_syntax.specs.declared.module.Module.{Module}
-use Rattle.wasm_valid.specs.Spaces.{tables_of}
-use Rattle.wasm_valid.specs.ModuleRules.{is_typed_module, is_framed, obeys_rules, is_vector, type_exists, is_table, is_elem, is_elem_mode, is_start, holds}
+use Rattle.wasm_valid.specs.Spaces.{tables_of, mems_of}
+use Rattle.wasm_valid.specs.ModuleRules.{is_typed_module, is_framed, obeys_rules, is_vector, type_exists, is_table, is_memory, is_data, is_elem, is_elem_mode, is_start, holds}
 
 pub left_true : (p q : Bool) → (p && q) ≡ true → p ≡ true
 left_true true q h = refl
@@ -28,8 +30,10 @@ pub record Rules (m : Module) : Type 0 where
   pub few : is_vector m.funcs ≡ true
   pub types : list_all (λ (g : Func). type_exists m g.ty) m.funcs ≡ true
   pub tables : list_all is_table m.tables ≡ true
+  pub mems : list_all is_memory m.mems ≡ true
   pub start : is_start m m.start ≡ true
   pub elems : list_all (is_elem m) m.elems ≡ true
+  pub datas : list_all (λ (segment : Data). is_data m segment.mode) m.datas ≡ true
 
 rules_of : (m : Module) → obeys_rules m ≡ true → Rules m
 rules_of m h =
@@ -38,12 +42,14 @@ rules_of m h =
     let without_elems = left_true _ _ without_datas in
     let start = right_true _ _ without_elems in
     let without_exports = left_true _ _ (left_true _ _ (left_true _ _ without_elems)) in
-    let without_memories = left_true _ _ (left_true _ _ (left_true _ _ without_exports)) in
+    let with_memories = left_true _ _ (left_true _ _ without_exports) in
+    let mems = right_true _ _ with_memories in
+    let without_memories = left_true _ _ with_memories in
     let tables = right_true _ _ without_memories in
     let without_tables = left_true _ _ without_memories in
     let types = right_true _ _ without_tables in
     let few = left_true _ _ (left_true _ _ without_tables) in
-    record { few = few; types = types; tables = tables; start = start; elems = elems }
+    record { few = few; types = types; tables = tables; mems = mems; start = start; elems = elems; datas = right_true _ _ h }
 
 pub rules_typed : (m : Module) → is_typed_module m ≡ true → Rules m
 unfolding is_typed_module is_framed
@@ -63,6 +69,21 @@ type_is_there m h k g e = ltb-true g.ty (length m.types) (true_at (λ (g : Func)
 
 pub table_is_right : (m : Module) → is_typed_module m ≡ true → (k : ℕ) (ty : TableType) → slice_get m.tables k ≡ Some ty → is_table ty ≡ true
 table_is_right m h k ty e = true_at is_table m.tables k ty (rules_typed m h).tables e
+
+pub memory_is_right : (m : Module) → is_typed_module m ≡ true → (k : ℕ) (limit : Limit) → slice_get m.mems k ≡ Some limit → is_memory limit ≡ true
+memory_is_right m h k limit e = true_at is_memory m.mems k limit (rules_typed m h).mems e
+
+mode_memory : (m : Module) (w : Mode) (x : ℕ) (id : BlockId) → is_data m w ≡ true → w ≡ mode.Active x id → x < length (mems_of m)
+mode_memory m (mode.Active y jd) x id h e =
+    let same : y ≡ x = cc in
+    subst (λ (n : ℕ). n < length (mems_of m)) same (ltb-true y (length (mems_of m)) (left_true _ _ h))
+mode_memory m mode.Passive x id h e = absurd (cc)
+mode_memory m mode.Declared x id h e = absurd (cc)
+
+-- the memory of an active segment is there
+pub memory_is_there : (m : Module) → is_typed_module m ≡ true → (k : ℕ) (segment : Data) (x : ℕ) (id : BlockId) → slice_get m.datas k ≡ Some segment → segment.mode ≡ mode.Active x id → x < length (mems_of m)
+memory_is_there m h k segment x id e active =
+    mode_memory m segment.mode x id (true_at (λ (segment : Data). is_data m segment.mode) m.datas k segment (rules_typed m h).datas e) active
 
 same_is : (x y : ValType) → same_type x y ≡ true → y ≡ x
 same_is v.I32 v.I32 h = refl

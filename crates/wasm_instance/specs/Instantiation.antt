@@ -1,7 +1,8 @@
 -- Instantiation of a module (WebAssembly Core 2.0, section 4.5.4; JS Interface, section 5, "instantiate the core of a WebAssembly
 -- module"): what the store is once all is allocated and the active segments are written, before the start function is called.
-use Rattle.std.specs.Prelude.{◌≡◌, ℕ, ◌+◌, Bool, true, false, nat_le, List, [], ◌∷◌, Option, length, option_map, slice_index_or}
+use Rattle.std.specs.Prelude.{◌≡◌, ℕ, ◌+◌, Bool, true, false, ◌&&◌, nat_le, List, [], ◌∷◌, ◌++◌, Option, length, option_map, slice_index_or}
 use Rattle.std.specs.List.{list_all}
+use Rattle.wasm_syntax.specs.declared.types.Limit.{Limit}
 use Rattle.wasm_syntax.specs.declared.types.TableType.{TableType}
 use Rattle.wasm_syntax.specs.declared.instructions.BlockId.{BlockId}
 use Rattle.wasm_syntax.specs.declared.module.Mode.{Mode}
@@ -19,17 +20,26 @@ use Rattle.wasm_syntax.specs.declared.addresses.TableAddr.{TableAddr}
 use Rattle.wasm_syntax.specs.declared.addresses.MemAddr.{MemAddr}
 use Rattle.wasm_syntax.specs.declared.addresses.ElemAddr.{ElemAddr}
 use Rattle.wasm_syntax.specs.declared.addresses.DataAddr.{DataAddr}
-use Rattle.raw_memory.specs.Bytes.{replaced as with_new}
+use Rattle.raw_memory.specs.Bytes.{most_pages, replaced as with_new}
 use Rattle.wasm_store.specs.declared.instances.Instance.{Instance}
 use Rattle.wasm_store.specs.Store.{Store, module_at, table_at, element_at, with_table, with_element, replaced, most_entries}
-use Rattle.wasm_store.specs.Memories.{memory_at, data_at, with_memory, with_data, with_bytes}
-use Rattle.wasm_store.specs.Allocated.{func_addr, table_addr, mem_addr, instance_of, value_of, allocated}
+use Rattle.wasm_store.specs.Memories.{memory_at, data_at, with_memory, with_data, with_bytes, all_pages, most_pages_in_all}
+use Rattle.wasm_store.specs.Allocated.{func_addr, table_addr, mem_addr, memories_from, instance_of, value_of, allocated}
 use Rattle.wasm_instance.specs.declared.modules.Instantiated.{Instantiated}
 use Rattle.wasm_instance.specs.declared.modules.Instantiated.TheVariants as ends
 
--- no table of the module has more entries than the limit of the embedding
-abbrev pub is_within_limits : Module → Bool
-is_within_limits m = list_all (λ (ty : TableType). nat_le ty.limit.min most_entries) m.tables
+-- The limits of the embedding.
+
+-- no table has more entries
+abbrev pub are_tables_within : List TableType → Bool
+are_tables_within tys = list_all (λ (ty : TableType). nat_le ty.limit.min most_entries) tys
+
+-- no memory has more pages, nor have all memories of the store together with them
+abbrev pub are_memories_within : Store → List Limit → Bool
+are_memories_within s limits = list_all (λ (limit : Limit). nat_le limit.min most_pages) limits && nat_le (all_pages (s.memories ++ memories_from limits)) most_pages_in_all
+
+abbrev pub is_within_limits : Store → Module → Bool
+is_within_limits s m = are_tables_within m.tables && are_memories_within s m.mems
 
 -- What a row of segments comes to: it goes on with a store, or has trapped and leaves one.
 pub data Outcome : Type 0 where
@@ -73,14 +83,18 @@ init_data i offset d (mode.Active x id) s =
 init_data i offset d mode.Passive s = goes s
 init_data i offset d mode.Declared s = goes s
 
--- the segments of a module one after the other, where these are their addresses
-abbrev pub init_elements : Instance → (BlockId → ℕ) → List ElemAddr → List Elem → Store → Outcome
-init_elements i offset (e ∷ es) (segment ∷ segments) s = and_then (init_element i offset e segment.mode s) (init_elements i offset es segments)
-init_elements i offset _ _ s = goes s
+-- one after the other, each with its partner, up to the first trap
+abbrev pub in_order : {A B : Type 0} → (A → B → Store → Outcome) → List A → List B → Store → Outcome
+in_order f (x ∷ xs) (y ∷ ys) s = and_then (f x y s) (in_order f xs ys)
+in_order f _ _ s = goes s
 
-abbrev pub init_datas : Instance → (BlockId → ℕ) → List DataAddr → List Data → Store → Outcome
-init_datas i offset (d ∷ ds) (segment ∷ segments) s = and_then (init_data i offset d segment.mode s) (init_datas i offset ds segments)
-init_datas i offset _ _ s = goes s
+-- the element segments of an instance of the module m
+abbrev pub init_elements : Module → Instance → (BlockId → ℕ) → Store → Outcome
+init_elements m i offset s = in_order (λ (e : ElemAddr) (segment : Elem). init_element i offset e segment.mode) i.elems m.elems s
+
+-- its data segments
+abbrev pub init_datas : Module → Instance → (BlockId → ℕ) → Store → Outcome
+init_datas m i offset s = in_order (λ (d : DataAddr) (segment : Data). init_data i offset d segment.mode) i.datas m.datas s
 
 -- an offset is an i32
 abbrev pub number_of : Value → ℕ
@@ -90,9 +104,9 @@ number_of _ = 0
 abbrev pub offset_of : ModuleAddr → Instance → Store → BlockId → ℕ
 offset_of a imports s id = number_of (value_of a imports s id)
 
--- the element segments and then the data segments of a new instance i of the module m
+-- the element segments and then the data segments
 abbrev pub init_segments : Module → Instance → (BlockId → ℕ) → Store → Outcome
-init_segments m i offset s = and_then (init_elements i offset i.elems m.elems s) (init_datas i offset i.datas m.datas)
+init_segments m i offset s = and_then (init_elements m i offset s) (init_datas m i offset)
 
 -- the module at a with these imports, instantiated in a store
 abbrev pub instantiated : ModuleAddr → Instance → Store → Outcome
@@ -105,6 +119,6 @@ start_of m i = option_map (λ x. slice_index_or i.funcs x (func_addr 0)) m.start
 -- What an instantiation answers and makes of the store.
 abbrev pub Instantiates : ModuleAddr → Instance → Store → Instantiated → Store → Type 0
 Instantiates a imports old (ends.Ready i start) new =
-    (is_within_limits (module_at old a) ≡ true) × (instantiated a imports old ≡ goes new) × (i.0 ≡ length old.instances) × (start ≡ start_of (module_at old a) (instance_of a imports old))
-Instantiates a imports old (ends.Trapped t) new = (is_within_limits (module_at old a) ≡ true) × (instantiated a imports old ≡ traps t new)
-Instantiates a imports old ends.PastLimit new = (is_within_limits (module_at old a) ≡ false) × (new ≡ old)
+    (is_within_limits old (module_at old a) ≡ true) × (instantiated a imports old ≡ goes new) × (i.0 ≡ length old.instances) × (start ≡ start_of (module_at old a) (instance_of a imports old))
+Instantiates a imports old (ends.Trapped t) new = (is_within_limits old (module_at old a) ≡ true) × (instantiated a imports old ≡ traps t new)
+Instantiates a imports old ends.PastLimit new = (is_within_limits old (module_at old a) ≡ false) × (new ≡ old)

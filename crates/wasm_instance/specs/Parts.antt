@@ -1,7 +1,8 @@
 -- Private: words of the contracts of the parts of an instantiation.
-use Rattle.std.specs.Prelude.{◌≡◌, ℕ, ◌++◌, List, Result, Ok, Err}
+use Rattle.std.specs.Prelude.{◌≡◌, ℕ, ◌++◌, List, Result, Ok, Err, map}
 use Rattle.wasm_syntax.specs.Blocks.{block_of}
 use Rattle.wasm_syntax.specs.declared.instructions.BlockId.{BlockId}
+use Rattle.wasm_syntax.specs.declared.module.Data.{Data}
 use Rattle.wasm_syntax.specs.declared.module.Module.{Module}
 use Rattle.wasm_syntax.specs.declared.trap.Trap.{Trap}
 use Rattle.wasm_syntax.specs.declared.value.Value.{Value}
@@ -33,6 +34,10 @@ with_elements es s = record s { elements = s.elements ++ es }
 
 abbrev pub with_datas : List (List ℕ) → Store → Store
 with_datas ds s = record s { datas = s.datas ++ ds }
+
+-- the bytes of data segments
+abbrev pub datas_from : List Data → List (List ℕ)
+datas_from segments = map (λ (segment : Data). segment.bytes) segments
 
 -- the value of a constant expression, by the functions and the values of the imported globals
 abbrev pub constant_in : Module → List FuncAddr → List Value → BlockId → Value

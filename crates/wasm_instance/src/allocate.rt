@@ -3,29 +3,52 @@
 ghost use Rattle.std.specs.Prelude.{◌≡◌, ◌<◌, ◌≤◌, ◌++◌, true, [], map, length, slice_get, Some, IfOk, OnOk};
 ghost use Rattle.std.specs.List.{All};
 ghost use Rattle.wasm_syntax.specs.declared.addresses.GlobalAddr.{GlobalAddr};
-ghost use Rattle.wasm_valid.specs.ModuleRules.{is_table, is_typed_module};
+ghost use Rattle.wasm_valid.specs.ModuleRules.{is_table, is_memory, is_typed_module};
 ghost use Rattle.wasm_store.specs.Store.{module_at, instance_at, global_at, most_entries};
 ghost use Rattle.wasm_store.specs.Whole.{IsLater, IsFunction, IsGlobal, AreLive};
-ghost use Rattle.wasm_store.specs.Allocated.{fresh, func_addr, table_addr, global_addr, elem_addr, functions_of, tables_from, globals_from, new_items, elements_from, allocated, AreImports};
-ghost use Rattle.wasm_instance.specs.Instantiation.{is_within_limits};
-ghost use Rattle.wasm_instance.specs.Parts.{with_functions, with_tables, with_globals, with_elements, constant_in};
+ghost use Rattle.wasm_store.specs.Allocated.{fresh, func_addr, table_addr, global_addr, mem_addr, elem_addr, data_addr, functions_of, tables_from, memories_from, globals_from, new_items, elements_from, allocated, AreImports};
+ghost use Rattle.wasm_instance.specs.Instantiation.{are_tables_within, are_memories_within, is_within_limits};
+ghost use Rattle.wasm_instance.specs.Parts.{with_functions, with_tables, with_memories, with_globals, with_elements, with_datas, datas_from, constant_in};
 
 use crate::constants::{null, value};
 use sqlite_items::Items;
 use std::alloc::{AllocError, Global};
 use wasm_store::laws::{modules_are_allocated, order, types_stay};
-use wasm_store::{FuncInst, GlobalInst, Instance, MOST_ENTRIES, Store};
+use wasm_store::{
+    FuncInst, GlobalInst, Instance, MOST_ENTRIES, MOST_PAGES, MOST_PAGES_IN_ALL, Store,
+};
 use wasm_syntax::{
-    Elem, ElemAddr, Func, FuncAddr, FuncType, GlobalAddr, GlobalDef, InstAddr, Module, ModuleAddr,
-    TableAddr, TableType, Value,
+    Data, DataAddr, Elem, ElemAddr, Func, FuncAddr, FuncType, GlobalAddr, GlobalDef, InstAddr,
+    Limit, MemAddr, Module, ModuleAddr, TableAddr, TableType, Value,
 };
 
-/// Whether no table of the module has more entries than the embedding allows.
-pub(crate) fn is_within_limits(module: &Module) -> bool
-    ensures { result ≡ is_within_limits «module».now }
+/// Whether none of these tables has more entries than the embedding allows.
+fn are_tables_within(tables: &[TableType]) -> bool
+    ensures { result ≡ are_tables_within tables.now }
 {
-    let tables = module.tables.as_slice();
     tables.iter().all(|ty| ty.limit.min <= MOST_ENTRIES)
+}
+
+/// Whether none of these memories has more pages than the embedding allows, nor have all memories of the store together with them.
+fn are_memories_within(store: &Store, limits: &[Limit]) -> bool
+    ensures { result ≡ are_memories_within store.now limits.now }
+{
+    let mut pages = store.pages();
+    for limit in limits {
+        if limit.min > MOST_PAGES || pages + limit.min > MOST_PAGES_IN_ALL {
+            return false;
+        }
+        pages += limit.min;
+    }
+    true
+}
+
+/// Whether the module passes no limit of the embedding.
+pub(crate) fn is_within_limits(store: &Store, module: &Module) -> bool
+    ensures { result ≡ is_within_limits store.now «module».now }
+{
+    are_tables_within(module.tables.as_slice())
+        && are_memories_within(store, module.mems.as_slice())
 }
 
 fn func_at(module: &Module, k: usize) -> &Func
@@ -93,7 +116,7 @@ fn add_functions(
 
 fn table_type(store: &Store, a: ModuleAddr, k: usize) -> TableType
     requires live { a.0 < length store.now.modules }
-    requires limits { is_within_limits (module_at store.now a) ≡ true }
+    requires limits { are_tables_within (module_at store.now a).tables ≡ true }
     requires within { k < length (module_at store.now a).tables }
     ensures value { slice_get (module_at store.now a).tables k ≡ Some result }
     ensures table { is_table result ≡ true }
@@ -110,7 +133,7 @@ fn add_tables(
     tables: &mut Items<TableAddr>,
 ) -> Result<(), AllocError>
     requires live { a.0 < length store.old.modules }
-    requires limits { is_within_limits (module_at store.old a) ≡ true }
+    requires limits { are_tables_within (module_at store.old a).tables ≡ true }
     ensures added { OnOk result (store.new ≡ with_tables (tables_from (module_at store.old a).tables) store.old) }
     ensures addresses { OnOk result (tables.new ≡ tables.old ++ fresh table_addr (length store.old.tables) (length (module_at store.old a).tables)) }
     ensures later { IsLater store.old store.new }
@@ -132,6 +155,40 @@ fn global_def(module: &Module, k: usize) -> GlobalDef
     ensures { slice_get «module».now.globals k ≡ Some result }
 {
     module.globals.as_slice()[k]
+}
+
+fn memory_type(store: &Store, a: ModuleAddr, k: usize) -> Limit
+    requires live { a.0 < length store.now.modules }
+    requires within { k < length (module_at store.now a).mems }
+    ensures value { slice_get (module_at store.now a).mems k ≡ Some result }
+    ensures memory { is_memory result ≡ true }
+{
+    store.module(a).module().mems.as_slice()[k]
+}
+
+/// The module's own memories, whose bytes are zero.
+fn add_memories(
+    alloc: Global,
+    store: &mut Store,
+    a: ModuleAddr,
+    mems: &mut Items<MemAddr>,
+) -> Result<(), AllocError>
+    requires live { a.0 < length store.old.modules }
+    requires limits { are_memories_within store.old (module_at store.old a).mems ≡ true }
+    ensures added { OnOk result (store.new ≡ with_memories (memories_from (module_at store.old a).mems) store.old) }
+    ensures addresses { OnOk result (mems.new ≡ mems.old ++ fresh mem_addr (length store.old.memories) (length (module_at store.old a).mems)) }
+    ensures later { IsLater store.old store.new }
+{
+    order();
+    let count = store.module(a).module().mems.len();
+    for k in 0..count {
+        let limit = memory_type(store, a, k);
+        match store.alloc_memory(alloc, limit)? {
+            Some(address) => mems.push(address)?,
+            None => unreachable!(),
+        }
+    }
+    Ok(())
 }
 
 fn own_global(
@@ -245,6 +302,45 @@ fn add_elements(
     Ok(())
 }
 
+fn data_at(module: &Module, k: usize) -> &Data
+    requires { k < length «module».now.datas }
+    ensures { slice_get «module».now.datas k ≡ Some result.now }
+{
+    &module.datas.as_slice()[k]
+}
+
+/// The bytes of one of the module's data segments.
+fn own_bytes(alloc: Global, store: &Store, a: ModuleAddr, k: usize) -> Result<Items<u8>, AllocError>
+    requires live { a.0 < length store.now.modules }
+    requires within { k < length (module_at store.now a).datas }
+    ensures { IfOk result (λ bytes. slice_get (datas_from (module_at store.now a).datas) k ≡ Some bytes) }
+{
+    let segment = data_at(store.module(a).module(), k);
+    let bytes = Items::from_slice(alloc, segment.bytes.as_slice())?;
+    Ok(bytes)
+}
+
+/// The module's data segments.
+fn add_datas(
+    alloc: Global,
+    store: &mut Store,
+    a: ModuleAddr,
+    datas: &mut Items<DataAddr>,
+) -> Result<(), AllocError>
+    requires { a.0 < length store.old.modules }
+    ensures added { OnOk result (store.new ≡ with_datas (datas_from (module_at store.old a).datas) store.old) }
+    ensures addresses { OnOk result (datas.new ≡ datas.old ++ fresh data_addr (length store.old.datas) (length (module_at store.old a).datas)) }
+    ensures later { IsLater store.old store.new }
+{
+    order();
+    let count = store.module(a).module().datas.len();
+    for k in 0..count {
+        let bytes = own_bytes(alloc, store, a, k)?;
+        datas.push(store.alloc_data(alloc, bytes)?)?;
+    }
+    Ok(())
+}
+
 /// The module at `a` with all its things, and the address of its instance. `values` are those of the imported globals.
 pub(crate) fn allocate(
     alloc: Global,
@@ -256,9 +352,7 @@ pub(crate) fn allocate(
     requires live { a.0 < length store.old.modules }
     requires typed { is_typed_module (module_at store.old a) ≡ true }
     requires imports { AreImports store.old (module_at store.old a) imports.now }
-    requires limits { is_within_limits (module_at store.old a) ≡ true }
-    requires no_memories { (module_at store.old a).mems ≡ [] }
-    requires no_datas { (module_at store.old a).datas ≡ [] }
+    requires limits { is_within_limits store.old (module_at store.old a) ≡ true }
     requires values { values.now ≡ map (λ (g : GlobalAddr). (global_at store.old g).value) imports.now.globals }
     ensures address { IfOk result (λ i. i.0 ≡ length store.old.instances) }
     ensures allocated { OnOk result (store.new ≡ allocated a imports.now store.old) }
@@ -269,14 +363,17 @@ pub(crate) fn allocate(
     store.whole();
     let mut funcs = Items::from_slice(alloc, imports.funcs.as_slice())?;
     let mut tables = Items::from_slice(alloc, imports.tables.as_slice())?;
-    let mems = Items::from_slice(alloc, imports.mems.as_slice())?;
+    let mut mems = Items::from_slice(alloc, imports.mems.as_slice())?;
     let mut globals = Items::from_slice(alloc, imports.globals.as_slice())?;
     let mut elems = Items::new(alloc);
+    let mut datas = Items::new(alloc);
     let instance = store.alloc_instance(alloc, Instance::blank(alloc, a))?;
     add_functions(alloc, store, a, instance, &mut funcs)?;
     add_tables(alloc, store, a, &mut tables)?;
+    add_memories(alloc, store, a, &mut mems)?;
     add_globals(alloc, store, a, funcs.as_slice(), values, &mut globals)?;
     add_elements(alloc, store, a, funcs.as_slice(), values, &mut elems)?;
+    add_datas(alloc, store, a, &mut datas)?;
     let lists = Instance {
         module: a,
         funcs,
@@ -284,7 +381,7 @@ pub(crate) fn allocate(
         mems,
         globals,
         elems,
-        datas: Items::new(alloc),
+        datas,
     };
     store.set_instance(instance, lists);
     Ok(instance)

@@ -25,7 +25,7 @@ pub enum Instantiated {
     },
     /// A segment doesn't fit where it is written. What earlier ones wrote stays.
     Trapped(Trap),
-    /// A table would have more entries than the embedding allows. Nothing has changed.
+    /// A table or a memory would be larger than the embedding allows, or all memories together would be. Nothing has changed.
     PastLimit,
 }
 
@@ -38,8 +38,6 @@ pub fn instantiate(
 ) -> Result<Instantiated, AllocError>
     requires live { a.0 < length store.old.modules }
     requires imports { AreImports store.old (module_at store.old a) imports.now }
-    requires no_memories { (module_at store.old a).mems ≡ [] }
-    requires no_datas { (module_at store.old a).datas ≡ [] }
     ensures ends { IfOk result (λ r. Instantiates a imports.now store.old r store.new) }
     ensures there { IfOk result (λ r. IsThere a imports.now store.old r store.new) }
     ensures code { IfOk result (λ r. AllHaveCode store.old → AllHaveCode store.new) }
@@ -49,7 +47,7 @@ pub fn instantiate(
     instances_stay();
     indices();
     store.whole();
-    if !is_within_limits(store.module(a).module()) {
+    if !is_within_limits(store, store.module(a).module()) {
         return Ok(Instantiated::PastLimit);
     }
     let values = imported_values(alloc, store, imports.globals.as_slice())?;

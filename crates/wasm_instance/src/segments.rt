@@ -2,17 +2,22 @@
 
 ghost use Rattle.std.specs.Prelude.{◌≡◌, ◌<◌, [], true, length, slice_get, Some};
 ghost use Rattle.wasm_syntax.specs.declared.addresses.ElemAddr.{ElemAddr};
+ghost use Rattle.wasm_syntax.specs.declared.addresses.DataAddr.{DataAddr};
 ghost use Rattle.wasm_syntax.specs.declared.module.Elem.{Elem};
+ghost use Rattle.wasm_syntax.specs.declared.module.Data.{Data};
 ghost use Rattle.wasm_valid.specs.ModuleRules.{is_typed_module};
 ghost use Rattle.wasm_store.specs.Store.{module_at, instance_at, table_at, element_at};
+ghost use Rattle.wasm_store.specs.Memories.{memory_at, data_at};
 ghost use Rattle.wasm_store.specs.Whole.{IsLater, HasLists, AreTyped};
-ghost use Rattle.wasm_instance.specs.Instantiation.{fits, table_of, write_element, init_element, init_elements, init_segments, start_of};
+ghost use Rattle.wasm_instance.specs.Instantiation.{fits, table_of, memory_of, write_element, write_data, init_element, init_elements, init_data, init_datas, init_segments, start_of};
 ghost use Rattle.wasm_instance.specs.Parts.{Ends, SameCode, module_of, offset_in};
 
 use crate::constants::{number, value};
 use wasm_store::Store;
 use wasm_store::laws::{indices, instances_stay, order};
-use wasm_syntax::{BlockId, ElemAddr, FuncAddr, InstAddr, Mode, TableAddr, Trap, Value};
+use wasm_syntax::{
+    BlockId, DataAddr, ElemAddr, FuncAddr, InstAddr, MemAddr, Mode, TableAddr, Trap, Value,
+};
 
 /// What becomes of an element segment of the module of an instance.
 fn mode_at(store: &Store, i: InstAddr, k: usize) -> Mode
@@ -106,12 +111,11 @@ fn write_segment(store: &mut Store, i: InstAddr, values: &[Value], k: usize) -> 
     }
 }
 
-/// The segments of an instance in their order, up to the first trap. What was written before it stays.
-pub(crate) fn write_segments(store: &mut Store, i: InstAddr, values: &[Value]) -> Result<(), Trap>
+/// The element segments of an instance in their order, up to the first trap.
+fn write_elements(store: &mut Store, i: InstAddr, values: &[Value]) -> Result<(), Trap>
     requires live { i.0 < length store.old.instances }
     requires lists { HasLists store.old (instance_at store.old i) }
-    requires no_datas { (module_of store.old i).datas ≡ [] }
-    ensures ends { Ends (init_segments (module_of store.old i) (instance_at store.old i) (offset_in (module_of store.old i) (instance_at store.old i) values.now) store.old) result store.new }
+    ensures ends { Ends (init_elements (module_of store.old i) (instance_at store.old i) (offset_in (module_of store.old i) (instance_at store.old i) values.now) store.old) result store.new }
     ensures same { SameCode store.old store.new }
     ensures later { IsLater store.old store.new }
 {
@@ -122,6 +126,119 @@ pub(crate) fn write_segments(store: &mut Store, i: InstAddr, values: &[Value]) -
         write_segment(store, i, values, k)?;
     }
     Ok(())
+}
+
+/// What becomes of a data segment of the module of an instance.
+fn data_mode_at(store: &Store, i: InstAddr, k: usize) -> Mode
+    requires live { i.0 < length store.now.instances }
+    requires lists { HasLists store.now (instance_at store.now i) }
+    ensures mode { (segment : Data) → slice_get (module_of store.now i).datas k ≡ Some segment → result ≡ segment.mode }
+    ensures typed { is_typed_module (module_of store.now i) ≡ true }
+{
+    let a = store.instance(i).module;
+    match store.module(a).module().datas.as_slice().get(k) {
+        Some(segment) => segment.mode,
+        None => Mode::Passive,
+    }
+}
+
+/// The address of a data segment.
+fn data_segment_at(store: &Store, i: InstAddr, k: usize) -> DataAddr
+    requires live { i.0 < length store.now.instances }
+    requires within { k < length (instance_at store.now i).datas }
+    ensures { slice_get (instance_at store.now i).datas k ≡ Some result }
+{
+    store.instance(i).datas.as_slice()[k]
+}
+
+/// The address of a memory.
+fn memory_at(store: &Store, i: InstAddr, x: u32) -> MemAddr
+    requires { i.0 < length store.now.instances }
+    ensures { result ≡ memory_of (instance_at store.now i) x }
+{
+    match store.instance(i).mems.as_slice().get(x as usize) {
+        Some(address) => *address,
+        None => MemAddr(0),
+    }
+}
+
+/// Writes a whole segment to the bytes of a memory from a place on, and drops it.
+fn write_bytes(store: &mut Store, memory: MemAddr, d: DataAddr, at: u32) -> Result<(), Trap>
+    requires live { memory.0 < length store.old.memories }
+    requires live_segment { d.0 < length store.old.datas }
+    ensures ends { Ends (write_data (fits (memory_at store.old memory).bytes at (length (data_at store.old d))) store.old memory d at) result store.new }
+    ensures same { SameCode store.old store.new }
+    ensures later { IsLater store.old store.new }
+{
+    order();
+    store.whole();
+    match u32::try_from(store.data(d).len()) {
+        Ok(n) => {
+            store.memory_init(memory, d, at, 0, n)?;
+            store.data_drop(d);
+            Ok(())
+        }
+        Err(_) => Err(Trap::MemoryRange),
+    }
+}
+
+/// What becomes of one data segment.
+fn write_data_segment(
+    store: &mut Store,
+    i: InstAddr,
+    values: &[Value],
+    k: usize,
+) -> Result<(), Trap>
+    requires live { i.0 < length store.old.instances }
+    requires lists { HasLists store.old (instance_at store.old i) }
+    requires within { k < length (instance_at store.old i).datas }
+    ensures ends { (d : DataAddr) (segment : Data) → slice_get (instance_at store.old i).datas k ≡ Some d → slice_get (module_of store.old i).datas k ≡ Some segment → Ends (init_data (instance_at store.old i) (offset_in (module_of store.old i) (instance_at store.old i) values.now) d segment.mode store.old) result store.new }
+    ensures same { SameCode store.old store.new }
+    ensures later { IsLater store.old store.new }
+{
+    order();
+    indices();
+    let d = data_segment_at(store, i, k);
+    match data_mode_at(store, i, k) {
+        Mode::Active { index, offset: id } => {
+            let at = offset(store, i, values, id);
+            let memory = memory_at(store, i, index);
+            write_bytes(store, memory, d, at)
+        }
+        Mode::Passive => Ok(()),
+        Mode::Declared => Ok(()),
+    }
+}
+
+/// The data segments of an instance in their order, up to the first trap.
+fn write_datas(store: &mut Store, i: InstAddr, values: &[Value]) -> Result<(), Trap>
+    requires live { i.0 < length store.old.instances }
+    requires lists { HasLists store.old (instance_at store.old i) }
+    ensures ends { Ends (init_datas (module_of store.old i) (instance_at store.old i) (offset_in (module_of store.old i) (instance_at store.old i) values.now) store.old) result store.new }
+    ensures same { SameCode store.old store.new }
+    ensures later { IsLater store.old store.new }
+{
+    order();
+    instances_stay();
+    let count = store.instance(i).datas.len();
+    for k in 0..count {
+        write_data_segment(store, i, values, k)?;
+    }
+    Ok(())
+}
+
+/// The segments of an instance in their order, up to the first trap. What was written before it stays.
+pub(crate) fn write_segments(store: &mut Store, i: InstAddr, values: &[Value]) -> Result<(), Trap>
+    requires live { i.0 < length store.old.instances }
+    requires lists { HasLists store.old (instance_at store.old i) }
+    ensures ends { Ends (init_segments (module_of store.old i) (instance_at store.old i) (offset_in (module_of store.old i) (instance_at store.old i) values.now) store.old) result store.new }
+    ensures same { SameCode store.old store.new }
+    ensures later { IsLater store.old store.new }
+{
+    order();
+    instances_stay();
+    write_elements(store, i, values)?;
+    write_datas(store, i, values)
 }
 
 /// The start function of the module of an instance.

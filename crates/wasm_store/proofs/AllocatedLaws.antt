@@ -28,14 +28,18 @@ use Rattle.wasm_syntax.specs.declared.addresses.FuncAddr.{FuncAddr}
 use Rattle.wasm_syntax.specs.declared.addresses.GlobalAddr.{GlobalAddr}
 use Rattle.wasm_valid.specs.Spaces.{then_, func_import, table_import, mem_import, funcs_of, imported_globals_of, func_type}
 use Rattle.wasm_syntax.specs.ValueTypes.{is_element}
-use Rattle.wasm_valid.specs.ModuleRules.{is_typed_module, type_exists, is_table, is_type, constant_type, gives_one, is_constant, is_global, is_elem}
+use Rattle.wasm_valid.specs.ModuleRules.{is_typed_module, type_exists, is_table, is_memory, is_type, constant_type, gives_one, is_constant, is_global, is_elem}
 use Rattle.wasm_store.specs.declared.instances.Instance.{Instance}
 use Rattle.wasm_store.specs.declared.instances.GlobalInst.{GlobalInst}
 use Rattle.wasm_store.specs.Store.{Store, TableInst, new_table, module_at, instance_at, global_at, type_of, most_entries, blank, no_function, no_table, no_global}
 use Rattle.wasm_store.specs.Whole.{IsWhole, IsLater, HasType, AreTyped, IsLive, AreLive, IsFunction, IsInstance, IsTable, IsGlobal, HasLists, HasFunction, HasTable, HasMemory, HasGlobal, HasElement, HasData, Stays, InstanceStays, TableStays, MemoryStays, GlobalStays, SegmentStays, own_type}
-use Rattle.wasm_store.specs.Allocated.{fresh, func_addr, table_addr, mem_addr, global_addr, elem_addr, data_addr, instance_of, type_with, functions_of, null_of, tables_from, memories_from, globals_from, elements_from, new_memory, new_global, new_items, constant, first_constant, value_of, allocated, AreImports, IsAllocated, ModulesAreAllocated}
+use Rattle.wasm_store.specs.Allocated.{fresh, func_addr, table_addr, mem_addr, global_addr, elem_addr, data_addr, instance_of, type_with, functions_of, null_of, tables_from, memories_from, globals_from, elements_from, new_global, new_items, constant, first_constant, value_of, allocated, AreImports, IsWithinLimits, IsAllocated, ModulesAreAllocated}
 use Rattle.wasm_store.proofs.Later.{extends_more, instance_same, table_same, memory_same, global_same, segment_same, stays_same, extends_same}
 use Rattle.wasm_store.proofs.Keeps.{Kept, kept, typed_later, function_later, table_address_later, memory_later, global_address_later}
+use Rattle.raw_memory.specs.Bytes.{most_pages}
+use Rattle.wasm_syntax.specs.declared.types.Limit.{Limit}
+use Rattle.wasm_store.specs.Memories.{new_memory, IsMemory}
+use Rattle.wasm_store.proofs.MemoryLaws.{new_is_memory}
 use Rattle.wasm_store.proofs.TableLaws.{new_table_fits}
 use Rattle.wasm_store.proofs.Zips.{zip_weaker, zip_append, zip_at}
 use Rattle.wasm_store.proofs.Fresh.{zip_map, zip_fresh, within_behind, made_behind, made_within}
@@ -87,6 +91,10 @@ tables_fit t tys h few = All-map (IsTable t) (λ (ty : TableType). new_table ty 
     (λ k d within. new_table_fits t (slice_index_or tys k d) (null_of (slice_index_or tys k d).elem) (all_true is_table (λ ty. is_table ty ≡ true) (λ ty e. e) tys h k d within) (few k d within)
     (null_typed t (slice_index_or tys k d) (all_true is_table (λ ty. is_table ty ≡ true) (λ ty e. e) tys h k d within)))
 
+memories_fit : (limits : List Limit) → list_all is_memory limits ≡ true → All (λ (limit : Limit). limit.min ≤ most_pages) limits → All IsMemory (memories_from limits)
+memories_fit limits h few = All-map IsMemory new_memory limits
+    (λ k d within. new_is_memory (slice_index_or limits k d) (all_true is_memory (λ limit. is_memory limit ≡ true) (λ limit e. e) limits h k d within) (few k d within))
+
 -- Constant expressions.
 
 module _ (s t : Store) (m : Module) (funcs : List FuncAddr) (globals : List GlobalAddr) (l : IsLater s t) (whole : IsWhole s) (fs : AllZip (HasFunction t m) funcs (funcs_of m)) (gs : AllZip (HasGlobal s) globals (imported_globals_of m)) where
@@ -132,7 +140,7 @@ module _ (s t : Store) (m : Module) (funcs : List FuncAddr) (globals : List Glob
 
 -- The whole.
 
-module _ (s : Store) (a : ModuleAddr) (imports : Instance) (whole : IsWhole s) (live : a.0 < length s.modules) (typed : is_typed_module (module_at s a) ≡ true) (few : All (λ (ty : TableType). ty.limit.min ≤ most_entries) (module_at s a).tables) (given : AreImports s (module_at s a) imports) where
+module _ (s : Store) (a : ModuleAddr) (imports : Instance) (whole : IsWhole s) (live : a.0 < length s.modules) (typed : is_typed_module (module_at s a) ≡ true) (limits : IsWithinLimits s (module_at s a)) (given : AreImports s (module_at s a) imports) where
   abbrev m : Module
   m = module_at s a
 
@@ -227,8 +235,9 @@ module _ (s : Store) (a : ModuleAddr) (imports : Instance) (whole : IsWhole s) (
         functions = All-append (IsFunction t) s.functions (functions_of m (record { 0 = length s.instances }) 0 m.funcs) keep.functions
             (functions_fit t m (record { 0 = length s.instances }) (omega (arith, count)) (ap (λ (i : Instance). module_at t i.module) there) 0 m.funcs rules.types
             (λ k. ap (slice_get m.funcs) (let e : 0 + k ≡ k = omega arith in e)));
+        memories = record { each = All-append IsMemory s.memories (memories_from m.mems) whole.memories.each (memories_fit m.mems rules.mems limits.mems); pages = limits.pages };
         instances = All-push (IsInstance t) s.instances inst keep.instances (live, inr lists);
-        tables = All-append (IsTable t) s.tables (tables_from m.tables) keep.tables (tables_fit t m.tables rules.tables few);
+        tables = All-append (IsTable t) s.tables (tables_from m.tables) keep.tables (tables_fit t m.tables rules.tables limits.tables);
         globals = All-append (IsGlobal t) s.globals (globals_from value m.globals) keep.globals
             (All-map (IsGlobal t) (new_global value) m.globals
             (all_true (is_global m) (λ (g : GlobalDef). IsGlobal t (new_global value g)) (λ g h. expression g.ty.val g.init h) m.globals rules.globals));
@@ -242,4 +251,4 @@ module _ (s : Store) (a : ModuleAddr) (imports : Instance) (whole : IsWhole s) (
   is_allocated = record { later = all_later; whole = all_whole; lists = lists }
 
 pub modules_are_allocated : ModulesAreAllocated
-modules_are_allocated s a imports whole live typed few given = is_allocated s a imports whole live typed few given
+modules_are_allocated s a imports whole live typed limits given = is_allocated s a imports whole live typed limits given

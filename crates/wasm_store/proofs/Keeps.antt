@@ -25,7 +25,8 @@ use Rattle.wasm_store.specs.declared.instances.FuncInst.TheVariants as f
 use Rattle.wasm_store.specs.declared.instances.Instance.{Instance}
 use Rattle.wasm_store.specs.declared.instances.GlobalInst.{GlobalInst}
 use Rattle.wasm_store.specs.Store as st
-use Rattle.wasm_store.specs.Store.{Store, TableInst, module_at, instance_at, function_at, element_at, type_of}
+use Rattle.wasm_store.specs.Memories.{AreMemories}
+use Rattle.wasm_store.specs.Store.{Store, TableInst, MemInst, module_at, instance_at, function_at, element_at, type_of}
 use Rattle.wasm_store.specs.Whole.{IsWhole, IsLater, IsLive, HasType, AreTyped, AreLive, IsFunction, IsInstance, IsTable, IsGlobal, IsBlank, HasLists, InstanceStays, SegmentStays, own_type}
 use Rattle.wasm_store.specs.Whole.{HasFunction, HasTable, HasMemory, HasGlobal, HasElement, HasData}
 use Rattle.wasm_store.proofs.Later as later
@@ -159,40 +160,49 @@ kept s t whole l = record {
 
 pub whole_module : (m : Module) (s : Store) → IsWhole s → IsWhole (st.with_module m s)
 whole_module m s whole = let k = kept s (st.with_module m s) whole (later.later_module m s) in
-    record { functions = k.functions; instances = k.instances; tables = k.tables; globals = k.globals; elements = k.elements }
+    record { functions = k.functions; instances = k.instances; tables = k.tables; globals = k.globals; elements = k.elements; memories = whole.memories }
 
 pub whole_new_instance : (i : Instance) (s : Store) → IsWhole s → i.module.0 < length s.modules → IsBlank i → IsWhole (st.with_new_instance i s)
 whole_new_instance i s whole live blank = let t : Store = st.with_new_instance i s in let k = kept s t whole (later.later_new_instance i s) in
-    record { functions = k.functions; instances = All-push (IsInstance t) s.instances i k.instances (live, inl blank); tables = k.tables; globals = k.globals; elements = k.elements }
+    record { functions = k.functions; instances = All-push (IsInstance t) s.instances i k.instances (live, inl blank); tables = k.tables; globals = k.globals; elements = k.elements; memories = whole.memories }
 
 pub whole_instance : (a : InstAddr) (i : Instance) (s : Store) → IsWhole s → IsBlank (instance_at s a) → i.module ≡ (instance_at s a).module → HasLists s i → IsWhole (st.with_instance a i s)
 whole_instance a i s whole blank same lists = let t : Store = st.with_instance a i s in let l = later.later_instance a i s blank same in let k = kept s t whole l in
-    record { functions = k.functions; instances = All-set (IsInstance t) s.instances a.0 i (instance_later s t l i (lists.live, inr lists)) k.instances; tables = k.tables; globals = k.globals; elements = k.elements }
+    record { functions = k.functions; instances = All-set (IsInstance t) s.instances a.0 i (instance_later s t l i (lists.live, inr lists)) k.instances; tables = k.tables; globals = k.globals; elements = k.elements; memories = whole.memories }
 
 pub whole_function : (g : FuncInst) (s : Store) → IsWhole s → IsFunction s g → IsWhole (st.with_function g s)
 whole_function g s whole fits = let t : Store = st.with_function g s in let l = later.later_function g s in let k = kept s t whole l in
-    record { functions = All-push (IsFunction t) s.functions g k.functions (is_function_later s t whole l g fits); instances = k.instances; tables = k.tables; globals = k.globals; elements = k.elements }
+    record { functions = All-push (IsFunction t) s.functions g k.functions (is_function_later s t whole l g fits); instances = k.instances; tables = k.tables; globals = k.globals; elements = k.elements; memories = whole.memories }
 
 pub whole_new_table : (u : TableInst) (s : Store) → IsWhole s → IsTable s u → IsWhole (st.with_new_table u s)
 whole_new_table u s whole fits = let t : Store = st.with_new_table u s in let l = later.later_new_table u s in let k = kept s t whole l in
-    record { functions = k.functions; instances = k.instances; tables = All-push (IsTable t) s.tables u k.tables (table_later s t l u fits); globals = k.globals; elements = k.elements }
+    record { functions = k.functions; instances = k.instances; tables = All-push (IsTable t) s.tables u k.tables (table_later s t l u fits); globals = k.globals; elements = k.elements; memories = whole.memories }
 
 pub whole_table : (a : TableAddr) (u : TableInst) (s : Store) → IsWhole s → IsLater s (st.with_table a u s) → IsTable s u → IsWhole (st.with_table a u s)
 whole_table a u s whole l fits = let t : Store = st.with_table a u s in let k = kept s t whole l in
-    record { functions = k.functions; instances = k.instances; tables = All-set (IsTable t) s.tables a.0 u (table_later s t l u fits) k.tables; globals = k.globals; elements = k.elements }
+    record { functions = k.functions; instances = k.instances; tables = All-set (IsTable t) s.tables a.0 u (table_later s t l u fits) k.tables; globals = k.globals; elements = k.elements; memories = whole.memories }
 
 pub whole_new_global : (g : GlobalInst) (s : Store) → IsWhole s → IsGlobal s g → IsWhole (st.with_new_global g s)
 whole_new_global g s whole fits = let t : Store = st.with_new_global g s in let l = later.later_new_global g s in let k = kept s t whole l in
-    record { functions = k.functions; instances = k.instances; tables = k.tables; globals = All-push (IsGlobal t) s.globals g k.globals (global_later s t l g fits); elements = k.elements }
+    record { functions = k.functions; instances = k.instances; tables = k.tables; globals = All-push (IsGlobal t) s.globals g k.globals (global_later s t l g fits); elements = k.elements; memories = whole.memories }
 
 pub whole_global : (a : GlobalAddr) (g : GlobalInst) (s : Store) → IsWhole s → IsLater s (st.with_global a g s) → IsGlobal s g → IsWhole (st.with_global a g s)
 whole_global a g s whole l fits = let t : Store = st.with_global a g s in let k = kept s t whole l in
-    record { functions = k.functions; instances = k.instances; tables = k.tables; globals = All-set (IsGlobal t) s.globals a.0 g (global_later s t l g fits) k.globals; elements = k.elements }
+    record { functions = k.functions; instances = k.instances; tables = k.tables; globals = All-set (IsGlobal t) s.globals a.0 g (global_later s t l g fits) k.globals; elements = k.elements; memories = whole.memories }
 
 pub whole_new_element : (items : List Value) (s : Store) → IsWhole s → AreLive s items → IsWhole (st.with_new_element items s)
 whole_new_element items s whole live = let t : Store = st.with_new_element items s in let l = later.later_new_element items s in let k = kept s t whole l in
-    record { functions = k.functions; instances = k.instances; tables = k.tables; globals = k.globals; elements = All-push (AreLive t) s.elements items k.elements (lives_later s t l items live) }
+    record { functions = k.functions; instances = k.instances; tables = k.tables; globals = k.globals; elements = All-push (AreLive t) s.elements items k.elements (lives_later s t l items live); memories = whole.memories }
 
 pub whole_dropped : (a : ElemAddr) (s : Store) → IsWhole s → IsWhole (st.with_element a [] s)
 whole_dropped a s whole = let t : Store = st.with_element a [] s in let k = kept s t whole (later.later_dropped a s) in
-    record { functions = k.functions; instances = k.instances; tables = k.tables; globals = k.globals; elements = All-set (AreLive t) s.elements a.0 [] (All-nil (IsLive t)) k.elements }
+    record { functions = k.functions; instances = k.instances; tables = k.tables; globals = k.globals; elements = All-set (AreLive t) s.elements a.0 [] (All-nil (IsLive t)) k.elements; memories = whole.memories }
+
+-- other memories, as the limits allow
+pub whole_memories : (ms : List MemInst) (s : Store) → IsWhole s → IsLater s (record s { memories = ms }) → AreMemories ms → IsWhole (record s { memories = ms })
+whole_memories ms s whole l fit = let k = kept s (record s { memories = ms }) whole l in
+    record { functions = k.functions; instances = k.instances; tables = k.tables; globals = k.globals; elements = k.elements; memories = fit }
+
+pub whole_datas : (ds : List (List ℕ)) (s : Store) → IsWhole s → IsLater s (record s { datas = ds }) → IsWhole (record s { datas = ds })
+whole_datas ds s whole l = let k = kept s (record s { datas = ds }) whole l in
+    record { functions = k.functions; instances = k.instances; tables = k.tables; globals = k.globals; elements = k.elements; memories = whole.memories }

@@ -9,10 +9,13 @@ use Rattle.wasm_syntax.specs.declared.addresses.InstAddr.{InstAddr}
 use Rattle.wasm_syntax.specs.declared.addresses.TableAddr.{TableAddr}
 use Rattle.wasm_syntax.specs.declared.addresses.GlobalAddr.{GlobalAddr}
 use Rattle.wasm_syntax.specs.declared.addresses.ElemAddr.{ElemAddr}
+use Rattle.wasm_syntax.specs.declared.addresses.MemAddr.{MemAddr}
+use Rattle.wasm_syntax.specs.declared.addresses.DataAddr.{DataAddr}
 use Rattle.wasm_store.specs.declared.instances.FuncInst.{FuncInst}
 use Rattle.wasm_store.specs.declared.instances.Instance.{Instance}
 use Rattle.wasm_store.specs.declared.instances.GlobalInst.{GlobalInst}
 use Rattle.wasm_store.specs.Store as st
+use Rattle.wasm_store.specs.Memories.{no_memory, memory_at, with_new_memory, with_memory, with_new_data, with_data}
 use Rattle.wasm_store.specs.Store.{Store, TableInst, MemInst, instance_at, table_at, global_at, element_at}
 use Rattle.wasm_store.specs.Whole.{IsLater, Extends, Stays, InstanceStays, TableStays, MemoryStays, GlobalStays, SegmentStays, IsBlank}
 
@@ -132,3 +135,17 @@ later_new_element items s = later_by s (st.with_new_element items s) (modules_sa
 
 pub later_dropped : (a : ElemAddr) (s : Store) → IsLater s (st.with_element a [] s)
 later_dropped a s = later_by s (st.with_element a [] s) (modules_same s) (instances_same s) (functions_same s) (tables_same s) (memories_same s) (globals_same s) (extends_set SegmentStays segment_same s.elements a.0 [] [] (inr refl)) (datas_same s)
+
+-- Memories and data segments.
+
+pub later_new_memory : (m : MemInst) (s : Store) → IsLater s (with_new_memory m s)
+later_new_memory m s = later_by s (with_new_memory m s) (modules_same s) (instances_same s) (functions_same s) (tables_same s) (extends_push MemoryStays memory_same s.memories m) (globals_same s) (elements_same s) (datas_same s)
+
+pub later_memory : (a : MemAddr) (m : MemInst) (s : Store) → MemoryStays (memory_at s a) m → IsLater s (with_memory a m s)
+later_memory a m s stays = later_by s (with_memory a m s) (modules_same s) (instances_same s) (functions_same s) (tables_same s) (extends_set MemoryStays memory_same s.memories a.0 m no_memory stays) (globals_same s) (elements_same s) (datas_same s)
+
+pub later_new_data : (bytes : List ℕ) (s : Store) → IsLater s (with_new_data bytes s)
+later_new_data bytes s = later_by s (with_new_data bytes s) (modules_same s) (instances_same s) (functions_same s) (tables_same s) (memories_same s) (globals_same s) (elements_same s) (extends_push SegmentStays segment_same s.datas bytes)
+
+pub later_data_dropped : (d : DataAddr) (s : Store) → IsLater s (with_data d [] s)
+later_data_dropped d s = later_by s (with_data d [] s) (modules_same s) (instances_same s) (functions_same s) (tables_same s) (memories_same s) (globals_same s) (elements_same s) (extends_set SegmentStays segment_same s.datas d.0 [] [] (inr refl))

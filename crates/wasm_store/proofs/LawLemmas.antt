@@ -1,13 +1,14 @@
 -- The laws of stores.
 use Rattle.std.proofs.Common.{◌≡◌, ◌≤◌, List, length, ap, ◌∙◌, subst, inl, inr, arith}
 use Rattle.std.specs.Prelude.{slice_index_or}
-use Rattle.wasm_valid.specs.Spaces.{funcs_of, tables_of, globals_of}
+use Rattle.wasm_valid.specs.Spaces.{funcs_of, tables_of, mems_of, globals_of}
 use Rattle.wasm_store.specs.declared.instances.Instance.{Instance}
 use Rattle.wasm_store.specs.declared.instances.GlobalInst.{GlobalInst}
+use Rattle.wasm_store.specs.Memories.{no_memory}
 use Rattle.wasm_store.specs.Store as st
 use Rattle.wasm_store.specs.Store.{Store, TableInst, MemInst, module_at, instance_at}
-use Rattle.wasm_store.specs.Whole.{Extends, Stays, InstanceStays, TableStays, MemoryStays, GlobalStays, SegmentStays, IsBlank, HasFunction, HasTable, HasGlobal, HasElement}
-use Rattle.wasm_store.specs.Laws.{LaterStays, ValuesStayTyped, ModulesStay, FunctionsStay, TablesStay, GlobalsStay, InstancesStay, ListsStay, FunctionOfIndex, TableOfIndex, GlobalOfIndex, ElementOfIndex}
+use Rattle.wasm_store.specs.Whole.{Extends, Stays, InstanceStays, TableStays, MemoryStays, GlobalStays, SegmentStays, IsBlank, HasFunction, HasTable, HasMemory, HasGlobal, HasElement, HasData}
+use Rattle.wasm_store.specs.Laws.{LaterStays, ValuesStayTyped, ModulesStay, FunctionsStay, TablesStay, MemoriesStay, GlobalsStay, InstancesStay, ListsStay, FunctionOfIndex, TableOfIndex, GlobalOfIndex, ElementOfIndex, MemoryOfIndex, DataOfIndex}
 use Rattle.wasm_store.proofs.Keeps.{typed_later, lists_later}
 use Rattle.wasm_store.proofs.Zips.{zip_at}
 
@@ -73,6 +74,9 @@ functions_stay s t a l h = (let more : length s.functions ≤ length t.functions
 pub tables_stay : TablesStay
 tables_stay s t a l h = (let more : length s.tables ≤ length t.tables = l.tables.count in omega arith, l.tables.each a.0 st.no_table h)
 
+pub memories_stay : MemoriesStay
+memories_stay s t a l h = (let more : length s.memories ≤ length t.memories = l.memories.count in omega arith, l.memories.each a.0 no_memory h)
+
 pub globals_stay : GlobalsStay
 globals_stay s t a l h = (let more : length s.globals ≤ length t.globals = l.globals.count in omega arith, l.globals.each a.0 st.no_global h)
 
@@ -103,3 +107,9 @@ global_of_index s i k ty h e = zip_at (HasGlobal s) i.globals (globals_of (modul
 
 pub element_of_index : ElementOfIndex
 element_of_index s i k segment h e = zip_at (HasElement s) i.elems (module_at s i.module).elems k segment h.elems e
+
+pub memory_of_index : MemoryOfIndex
+memory_of_index s i k limit h e = zip_at (HasMemory s) i.mems (mems_of (module_at s i.module)) k limit h.mems e
+
+pub data_of_index : DataOfIndex
+data_of_index s i k segment h e = zip_at (HasData s) i.datas (module_at s i.module).datas k segment h.datas e

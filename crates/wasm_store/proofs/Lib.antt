@@ -3,6 +3,7 @@ pub mod Zips
 pub mod Keeps
 pub mod LawLemmas
 pub mod TableLaws
+pub mod MemoryLaws
 pub mod Steps
 pub mod RuleLaws
 pub mod Fresh

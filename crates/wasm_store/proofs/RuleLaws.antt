@@ -9,7 +9,7 @@ use Rattle.wasm_syntax.specs.ValueTypes.{same_type}
 use Rattle.wasm_syntax.specs.declared.module.Func.{Func}
 use Rattle.wasm_syntax.specs.declared.module.Module.{Module}
 use Rattle.wasm_valid.specs.Spaces.{when, then_}
-use Rattle.wasm_valid.specs.ModuleRules.{is_typed_module, is_framed, obeys_rules, type_exists, is_table, is_global, is_elem, is_type}
+use Rattle.wasm_valid.specs.ModuleRules.{is_typed_module, is_framed, obeys_rules, type_exists, is_table, is_memory, is_global, is_elem, is_type}
 
 pub left_true : (p q : Bool) → (p && q) ≡ true → p ≡ true
 left_true true q h = refl
@@ -22,6 +22,7 @@ right_true false q h = absurd (let e : false ≡ true = h in cc)
 pub record Rules (m : Module) : Type 0 where
   pub types : list_all (λ (g : Func). type_exists m g.ty) m.funcs ≡ true
   pub tables : list_all is_table m.tables ≡ true
+  pub mems : list_all is_memory m.mems ≡ true
   pub globals : list_all (is_global m) m.globals ≡ true
   pub elems : list_all (is_elem m) m.elems ≡ true
 
@@ -32,10 +33,12 @@ rules_of m h =
     let without_names = left_true _ _ (left_true _ _ (left_true _ _ without_datas)) in
     let without_exports = left_true _ _ without_names in
     let globals = right_true _ _ without_exports in
-    let without_memories = left_true _ _ (left_true _ _ (left_true _ _ without_exports)) in
+    let with_memories = left_true _ _ (left_true _ _ without_exports) in
+    let mems = right_true _ _ with_memories in
+    let without_memories = left_true _ _ with_memories in
     let tables = right_true _ _ without_memories in
     let types = right_true _ _ (left_true _ _ without_memories) in
-    record { types = types; tables = tables; globals = globals; elems = elems }
+    record { types = types; tables = tables; mems = mems; globals = globals; elems = elems }
 
 pub rules_typed : (m : Module) → is_typed_module m ≡ true → Rules m
 unfolding is_typed_module is_framed

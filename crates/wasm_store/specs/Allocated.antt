@@ -32,6 +32,8 @@ use Rattle.wasm_store.specs.declared.instances.FuncInst.{FuncInst}
 use Rattle.wasm_store.specs.declared.instances.FuncInst.TheVariants as f
 use Rattle.wasm_store.specs.declared.instances.Instance.{Instance}
 use Rattle.wasm_store.specs.declared.instances.GlobalInst.{GlobalInst}
+use Rattle.raw_memory.specs.Bytes.{most_pages}
+use Rattle.wasm_store.specs.Memories.{new_memory, all_pages, most_pages_in_all}
 use Rattle.wasm_store.specs.Store.{Store, TableInst, MemInst, new_table, module_at, global_at, most_entries}
 use Rattle.wasm_valid.specs.ModuleRules.{is_typed_module}
 use Rattle.wasm_store.specs.Whole.{HasFunction, HasTable, HasMemory, HasGlobal, IsLater, IsWhole, HasLists}
@@ -92,10 +94,6 @@ null_of v.ExternRef = w.ExternNull
 
 abbrev pub tables_from : List TableType → List TableInst
 tables_from tys = map (λ (ty : TableType). new_table ty (null_of ty.elem)) tys
-
--- a page has 65,536 bytes, which are zero at first
-abbrev pub new_memory : Limit → MemInst
-new_memory limit = record { bytes = replicate (limit.min * 65536) 0; max = limit.max }
 
 abbrev pub memories_from : List Limit → List MemInst
 memories_from limits = map new_memory limits
@@ -158,6 +156,12 @@ pub record IsAllocated (s : Store) (a : ModuleAddr) (imports : Instance) : Type 
   pub whole : IsWhole (allocated a imports s)
   pub lists : HasLists (allocated a imports s) (instance_of a imports s)
 
--- so it is of a typed module none of whose tables has more entries than the limit of the embedding
+-- None of the module's tables and memories passes a limit of the embedding, nor do all memories of the store together with them.
+pub record IsWithinLimits (s : Store) (m : Module) : Type 0 where
+  pub tables : All (λ (ty : TableType). ty.limit.min ≤ most_entries) m.tables
+  pub mems : All (λ (limit : Limit). limit.min ≤ most_pages) m.mems
+  pub pages : all_pages (s.memories ++ memories_from m.mems) ≤ most_pages_in_all
+
+-- so it is of a typed module within the limits
 abbrev pub ModulesAreAllocated : Type 0
-ModulesAreAllocated = (s : Store) (a : ModuleAddr) (imports : Instance) → IsWhole s → a.0 < length s.modules → is_typed_module (module_at s a) ≡ true → All (λ (ty : TableType). ty.limit.min ≤ most_entries) (module_at s a).tables → AreImports s (module_at s a) imports → IsAllocated s a imports
+ModulesAreAllocated = (s : Store) (a : ModuleAddr) (imports : Instance) → IsWhole s → a.0 < length s.modules → is_typed_module (module_at s a) ≡ true → IsWithinLimits s (module_at s a) → AreImports s (module_at s a) imports → IsAllocated s a imports

@@ -1,20 +1,25 @@
 -- Laws of stores. `src/laws.rt` has a function for each, whose contract is the law.
 use Rattle.std.specs.Prelude.{◌≡◌, ℕ, ◌<◌, length, Some, slice_get}
 use Rattle.wasm_syntax.specs.declared.types.ValType.{ValType}
+use Rattle.wasm_syntax.specs.declared.types.Limit.{Limit}
 use Rattle.wasm_syntax.specs.declared.types.TableType.{TableType}
 use Rattle.wasm_syntax.specs.declared.types.GlobalType.{GlobalType}
 use Rattle.wasm_syntax.specs.declared.module.Elem.{Elem}
+use Rattle.wasm_syntax.specs.declared.module.Data.{Data}
 use Rattle.wasm_syntax.specs.declared.value.Value.{Value}
 use Rattle.wasm_syntax.specs.declared.addresses.ModuleAddr.{ModuleAddr}
 use Rattle.wasm_syntax.specs.declared.addresses.InstAddr.{InstAddr}
 use Rattle.wasm_syntax.specs.declared.addresses.FuncAddr.{FuncAddr}
 use Rattle.wasm_syntax.specs.declared.addresses.TableAddr.{TableAddr}
+use Rattle.wasm_syntax.specs.declared.addresses.MemAddr.{MemAddr}
 use Rattle.wasm_syntax.specs.declared.addresses.GlobalAddr.{GlobalAddr}
 use Rattle.wasm_syntax.specs.declared.addresses.ElemAddr.{ElemAddr}
-use Rattle.wasm_valid.specs.Spaces.{funcs_of, tables_of, globals_of}
+use Rattle.wasm_syntax.specs.declared.addresses.DataAddr.{DataAddr}
+use Rattle.wasm_valid.specs.Spaces.{funcs_of, tables_of, mems_of, globals_of}
 use Rattle.wasm_store.specs.declared.instances.Instance.{Instance}
 use Rattle.wasm_store.specs.Store.{Store, module_at, instance_at, function_at, table_at, global_at}
-use Rattle.wasm_store.specs.Whole.{IsLater, HasType, HasLists, IsBlank, HasFunction, HasTable, HasGlobal, HasElement, GlobalStays, TableStays}
+use Rattle.wasm_store.specs.Memories.{memory_at}
+use Rattle.wasm_store.specs.Whole.{IsLater, HasType, HasLists, IsBlank, HasFunction, HasTable, HasMemory, HasGlobal, HasElement, HasData, GlobalStays, TableStays, MemoryStays}
 
 -- What is later is an order.
 
@@ -38,6 +43,10 @@ FunctionsStay = (s t : Store) (a : FuncAddr) → IsLater s t → a.0 < length s.
 -- its element type and its greatest size are the same, and its size is no smaller
 abbrev pub TablesStay : Type 0
 TablesStay = (s t : Store) (a : TableAddr) → IsLater s t → a.0 < length s.tables → (a.0 < length t.tables) × TableStays (table_at s a) (table_at t a)
+
+-- its greatest number of pages is the same, and its size is no smaller
+abbrev pub MemoriesStay : Type 0
+MemoriesStay = (s t : Store) (a : MemAddr) → IsLater s t → a.0 < length s.memories → (a.0 < length t.memories) × MemoryStays (memory_at s a) (memory_at t a)
 
 -- its type is the same, and its value too where it is not mutable
 abbrev pub GlobalsStay : Type 0
@@ -66,3 +75,9 @@ GlobalOfIndex = (s : Store) (i : Instance) (k : ℕ) (ty : GlobalType) → HasLi
 
 abbrev pub ElementOfIndex : Type 0
 ElementOfIndex = (s : Store) (i : Instance) (k : ℕ) (segment : Elem) → HasLists s i → slice_get (module_at s i.module).elems k ≡ Some segment → (a : ElemAddr) × (slice_get i.elems k ≡ Some a) × HasElement s a segment
+
+abbrev pub MemoryOfIndex : Type 0
+MemoryOfIndex = (s : Store) (i : Instance) (k : ℕ) (limit : Limit) → HasLists s i → slice_get (mems_of (module_at s i.module)) k ≡ Some limit → (a : MemAddr) × (slice_get i.mems k ≡ Some a) × HasMemory s a limit
+
+abbrev pub DataOfIndex : Type 0
+DataOfIndex = (s : Store) (i : Instance) (k : ℕ) (segment : Data) → HasLists s i → slice_get (module_at s i.module).datas k ≡ Some segment → (a : DataAddr) × (slice_get i.datas k ≡ Some a) × HasData s a segment

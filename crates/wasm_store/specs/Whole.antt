@@ -26,6 +26,7 @@ use Rattle.wasm_store.specs.declared.instances.FuncInst.TheVariants as f
 use Rattle.wasm_store.specs.declared.instances.Instance.{Instance}
 use Rattle.wasm_store.specs.declared.instances.GlobalInst.{GlobalInst}
 use Rattle.wasm_store.specs.Store.{Store, TableInst, MemInst, most_entries, type_of, table_type_of, module_at, instance_at, function_at, table_at, global_at, element_at}
+use Rattle.wasm_store.specs.Memories.{AreMemories}
 
 -- Values (4.2.1).
 
@@ -130,6 +131,7 @@ abbrev pub AreLive : Store → List Value → Type 0
 AreLive s items = All (IsLive s) items
 
 pub record IsWhole (s : Store) : Type 0 where
+  pub memories : AreMemories s.memories
   pub functions : All (IsFunction s) s.functions
   pub instances : All (IsInstance s) s.instances
   pub tables : All (IsTable s) s.tables

@@ -1,8 +1,8 @@
 //! Laws of stores, as contracts of functions that do nothing.
 
-ghost use Rattle.wasm_store.specs.Laws.{NothingChanges, LaterStays, ValuesStayTyped, ModulesStay, FunctionsStay, TablesStay, GlobalsStay};
+ghost use Rattle.wasm_store.specs.Laws.{NothingChanges, LaterStays, ValuesStayTyped, ModulesStay, FunctionsStay, TablesStay, MemoriesStay, GlobalsStay};
 ghost use Rattle.wasm_store.specs.Allocated.{ModulesAreAllocated};
-ghost use Rattle.wasm_store.specs.Laws.{InstancesStay, ListsStay, FunctionOfIndex, TableOfIndex, GlobalOfIndex, ElementOfIndex};
+ghost use Rattle.wasm_store.specs.Laws.{InstancesStay, ListsStay, FunctionOfIndex, TableOfIndex, GlobalOfIndex, ElementOfIndex, MemoryOfIndex, DataOfIndex};
 
 /// Each call leaves a later store, and what is later than that is later than the first.
 pub fn order()
@@ -10,12 +10,13 @@ pub fn order()
     ensures through { LaterStays }
 {}
 
-/// A live address stays live with its type, and the size of a table only rises.
+/// A live address stays live with its type, and the size of a table or memory only rises.
 pub fn types_stay()
     ensures values { ValuesStayTyped }
     ensures modules { ModulesStay }
     ensures functions { FunctionsStay }
     ensures tables { TablesStay }
+    ensures memories { MemoriesStay }
     ensures globals { GlobalsStay }
 {}
 
@@ -31,6 +32,8 @@ pub fn indices()
     ensures tables { TableOfIndex }
     ensures globals { GlobalOfIndex }
     ensures elements { ElementOfIndex }
+    ensures memories { MemoryOfIndex }
+    ensures datas { DataOfIndex }
 {}
 
 /// What a typed module becomes in a store (WebAssembly Core 2.0, section 4.5.3.8): the store is whole, and the instance has its lists.

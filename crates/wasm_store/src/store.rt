@@ -1,14 +1,15 @@
 //! The store and its calls.
 
 use crate::instances::{FuncInst, GlobalInst, Instance};
+use crate::memory::{MOST_PAGES, MOST_PAGES_IN_ALL, Memory};
 use crate::table::{MOST_ENTRIES, Table};
 use sqlite_items::Items;
 use std::alloc::{AllocError, Global};
 use std::marker::Model;
 use std::mem;
 use wasm_syntax::{
-    ElemAddr, FuncAddr, GlobalAddr, GlobalType, InstAddr, ModuleAddr, TableAddr, TableType, Trap,
-    Value,
+    DataAddr, ElemAddr, FuncAddr, GlobalAddr, GlobalType, InstAddr, Limit, MemAddr, ModuleAddr,
+    TableAddr, TableType, Trap, Value,
 };
 use wasm_valid::ValidModule;
 
@@ -24,8 +25,12 @@ pub struct Store {
     instances: Vec<Instance>,
     functions: Vec<FuncInst>,
     tables: Vec<Table>,
+    memories: Vec<Memory>,
     globals: Vec<GlobalInst>,
     elements: Vec<Items<Value>>,
+    datas: Vec<Items<u8>>,
+    // of all memories together
+    pages: u32,
     alloc: Global,
 }
 
@@ -34,17 +39,19 @@ impl Model for Store {
 
     ghost Value = { Store };
 
-    ghost use Rattle.wasm_store.specs.View.{store_of};
-    ghost use Rattle.wasm_store.specs.Whole.{IsWhole};
+    ghost use Rattle.wasm_store.specs.View.{store_of, IsStore};
 
     ghost view = { store_of };
 
-    ghost invariant = { λ s. IsWhole (store_of s) };
+    ghost invariant = { IsStore };
 }
 
 impl Store {
-    ghost use Rattle.std.specs.Prelude.{◌≡◌, ◌+◌, ◌<◌, ◌≤◌, ◌⊎◌, [], true, length, replicate, slice_get, slice_set, Some, IfOk, IfErr, IfSome, OnOk, OnErr};
-    ghost use Rattle.wasm_valid.specs.ModuleRules.{is_table, is_typed_module};
+    ghost use Rattle.std.specs.Prelude.{◌≡◌, ◌+◌, ◌<◌, ◌≤◌, ◌^◌, ◌⊎◌, ◌↔◌, [], true, length, replicate, slice_get, slice_set, Some, IfOk, IfErr, IfSome, IsSome, IsTrue, OnOk, OnErr};
+    ghost use Rattle.std.specs.Bool.{OnTrue, OnFalse};
+    ghost use Rattle.raw_memory.specs.Bytes.{InRange, run as bytes_from, replaced as with_new, IsWidth, number, low_bytes};
+    ghost use Rattle.wasm_valid.specs.ModuleRules.{is_table, is_memory, is_typed_module};
+    ghost use Rattle.wasm_store.specs.Memories.{memory_at, data_at, with_memory, with_new_data, with_data, with_bytes, memory_type_of, all_pages, most_pages_in_all, may_grow_memory, may_have_memory, NewMemory, GrowsMemory};
     ghost use Rattle.wasm_store.specs.Store.{empty_store, blank, module_at, instance_at, function_at, table_at, global_at, element_at};
     ghost use Rattle.wasm_store.specs.Store.{with_module, with_new_instance, with_instance, with_function, with_new_table, with_table, with_new_global, with_global, with_new_element, with_element};
     ghost use Rattle.wasm_store.specs.Store.{most_entries, table_type_of, with_entries, new_table, run, replaced};
@@ -60,8 +67,11 @@ impl Store {
             instances: Vec::new(alloc),
             functions: Vec::new(alloc),
             tables: Vec::new(alloc),
+            memories: Vec::new(alloc),
             globals: Vec::new(alloc),
             elements: Vec::new(alloc),
+            datas: Vec::new(alloc),
+            pages: 0,
             alloc,
         }
     }
@@ -335,6 +345,218 @@ impl Store {
         ensures later { IsLater self.old self.new }
     {
         self.elements[e.0 as usize] = Items::new(self.alloc);
+    }
+
+    /// How many pages all memories have together.
+    pub fn pages(&self) -> u32
+        ensures value { result ≡ all_pages self.now.memories }
+        ensures few { result ≤ most_pages_in_all }
+    {
+        self.pages
+    }
+
+    /// Whether a memory with so many pages may be added.
+    fn may_have_memory(&self, limit: Limit) -> bool
+        ensures { result ≡ may_have_memory self.now limit }
+    {
+        limit.min <= MOST_PAGES && self.pages as u64 + limit.min as u64 <= MOST_PAGES_IN_ALL as u64
+    }
+
+    /// Adds a memory of its type's least size, all of whose bytes are zero. None comes where that is past 1,024 pages, or where all
+    /// memories together would have more than 4,096.
+    pub fn alloc_memory(
+        &mut self,
+        alloc: Global,
+        limit: Limit,
+    ) -> Result<Option<MemAddr>, AllocError>
+        requires memory { is_memory limit ≡ true }
+        ensures added { IfOk result (NewMemory limit self.old self.new) }
+        ensures refused { OnErr result (self.new ≡ self.old) }
+        ensures later { IsLater self.old self.new }
+    {
+        if !self.may_have_memory(limit) {
+            return Ok(None);
+        }
+        let a = MemAddr(self.memories.len() as u64);
+        let memory = Memory::new(alloc, limit)?;
+        self.memories.push(memory)?;
+        self.pages += limit.min;
+        Ok(Some(a))
+    }
+
+    /// Adds a data segment.
+    pub fn alloc_data(&mut self, _alloc: Global, bytes: Items<u8>) -> Result<DataAddr, AllocError>
+        ensures address { IfOk result (λ d. d.0 ≡ length self.old.datas) }
+        ensures added { OnOk result (self.new ≡ with_new_data bytes self.old) }
+        ensures refused { OnErr result (self.new ≡ self.old) }
+        ensures later { IsLater self.old self.new }
+    {
+        let d = DataAddr(self.datas.len() as u64);
+        self.datas.push(bytes)?;
+        Ok(d)
+    }
+
+    /// Whether a memory may have `delta` pages more.
+    fn may_grow_memory(&self, a: MemAddr, delta: u32) -> bool
+        requires { a.0 < length self.now.memories }
+        ensures { result ≡ may_grow_memory self.now (memory_at self.now a) delta }
+    {
+        let memory = &self.memories[a.0 as usize];
+        let pages = memory.pages() as u64 + delta as u64;
+        let all = self.pages as u64 + delta as u64;
+        pages <= memory.max().unwrap_or(MOST_PAGES) as u64
+            && pages <= MOST_PAGES as u64
+            && all <= MOST_PAGES_IN_ALL as u64
+    }
+
+    /// Adds `delta` pages of zeros to a memory, and tells how many it had. None comes where that is past what the memory may have, past
+    /// 1,024, or where all memories together would have more than 4,096.
+    pub fn grow_memory(
+        &mut self,
+        _alloc: Global,
+        a: MemAddr,
+        delta: u32,
+    ) -> Result<Option<u32>, AllocError>
+        requires live { a.0 < length self.old.memories }
+        ensures grown { IfOk result (GrowsMemory a delta self.old self.new) }
+        ensures refused { OnErr result (self.new ≡ self.old) }
+        ensures later { IsLater self.old self.new }
+    {
+        if !self.may_grow_memory(a, delta) {
+            return Ok(None);
+        }
+        let memory = &mut self.memories[a.0 as usize];
+        let pages = memory.pages();
+        memory.grow(delta)?;
+        self.pages += delta;
+        Ok(Some(pages))
+    }
+
+    /// The number in the `width` bytes from `at` on, the lowest byte first. None comes where they aren't all there.
+    #[inline]
+    pub fn load(&self, a: MemAddr, at: u64, width: u8) -> Option<u64>
+        requires live { a.0 < length self.now.memories }
+        requires width { IsWidth width }
+        ensures in_range { IsSome result ↔ InRange (memory_at self.now a).bytes at width }
+        ensures value { IfSome result (λ v. v ≡ number (bytes_from (memory_at self.now a).bytes at width)) }
+        ensures bound { IfSome result (λ v. v < 256 ^ width) }
+    {
+        self.memories[a.0 as usize].load(at, width)
+    }
+
+    /// Writes the `width` low bytes of `v` from `at` on, the lowest first, or writes none where they aren't all there.
+    #[inline]
+    pub fn store(&mut self, a: MemAddr, at: u64, width: u8, v: u64) -> bool
+        requires live { a.0 < length self.old.memories }
+        requires width { IsWidth width }
+        ensures in_range { IsTrue result ↔ InRange (memory_at self.old a).bytes at width }
+        ensures written { OnTrue result (self.new ≡ with_memory a (with_bytes (with_new (memory_at self.old a).bytes at width (low_bytes width v)) (memory_at self.old a)) self.old) }
+        ensures refused { OnFalse result (self.new ≡ self.old) }
+        ensures later { IsLater self.old self.new }
+    {
+        let memory = &mut self.memories[a.0 as usize];
+        memory.store(at, width, v)
+    }
+
+    /// Lends the `len` bytes from `from` on. None comes where they aren't all there.
+    #[inline]
+    pub fn view(&self, a: MemAddr, from: u64, len: u64) -> Option<&[u8]>
+        requires { a.0 < length self.now.memories }
+        ensures in_range { IsSome result ↔ InRange (memory_at self.now a).bytes from len }
+        ensures value { IfSome result (λ s. s.now ≡ bytes_from (memory_at self.now a).bytes from len) }
+    {
+        self.memories[a.0 as usize].view(from, len)
+    }
+
+    /// Writes `byte` to the `n` bytes from `at` on, or traps and writes none. It takes no memory.
+    pub fn memory_fill(&mut self, a: MemAddr, at: u32, byte: u8, n: u32) -> Result<(), Trap>
+        requires { a.0 < length self.old.memories }
+        ensures within { OnOk result (at + n ≤ length (memory_at self.old a).bytes) }
+        ensures written { OnOk result (self.new ≡ with_memory a (with_bytes (with_new (memory_at self.old a).bytes at n (replicate n byte)) (memory_at self.old a)) self.old) }
+        ensures trap { IfErr result (λ trap. trap ≡ Trap.MemoryRange) }
+        ensures cause { OnErr result (length (memory_at self.old a).bytes < at + n) }
+        ensures refused { OnErr result (self.new ≡ self.old) }
+        ensures later { IsLater self.old self.new }
+    {
+        let memory = &mut self.memories[a.0 as usize];
+        if memory.fill(at as u64, n as u64, byte) {
+            Ok(())
+        } else {
+            Err(Trap::MemoryRange)
+        }
+    }
+
+    /// Copies the `n` bytes from `from` on to `to`, as they were before; or traps and writes none. It takes no memory.
+    pub fn memory_copy(&mut self, a: MemAddr, to: u32, from: u32, n: u32) -> Result<(), Trap>
+        requires { a.0 < length self.old.memories }
+        ensures within { OnOk result (to + n ≤ length (memory_at self.old a).bytes) }
+        ensures within_from { OnOk result (from + n ≤ length (memory_at self.old a).bytes) }
+        ensures written { OnOk result (self.new ≡ with_memory a (with_bytes (with_new (memory_at self.old a).bytes to n (bytes_from (memory_at self.old a).bytes from n)) (memory_at self.old a)) self.old) }
+        ensures trap { IfErr result (λ trap. trap ≡ Trap.MemoryRange) }
+        ensures cause { OnErr result ((length (memory_at self.old a).bytes < to + n) ⊎ (length (memory_at self.old a).bytes < from + n)) }
+        ensures refused { OnErr result (self.new ≡ self.old) }
+        ensures later { IsLater self.old self.new }
+    {
+        let memory = &mut self.memories[a.0 as usize];
+        if memory.copy_within(to as u64, from as u64, n as u64) {
+            Ok(())
+        } else {
+            Err(Trap::MemoryRange)
+        }
+    }
+
+    /// Copies the `n` bytes from `from` on of a data segment to the bytes of a memory from `to` on, or traps and writes none. It takes
+    /// no memory.
+    pub fn memory_init(
+        &mut self,
+        a: MemAddr,
+        d: DataAddr,
+        to: u32,
+        from: u32,
+        n: u32,
+    ) -> Result<(), Trap>
+        requires live { a.0 < length self.old.memories }
+        requires live_segment { d.0 < length self.old.datas }
+        ensures within { OnOk result (to + n ≤ length (memory_at self.old a).bytes) }
+        ensures within_segment { OnOk result (from + n ≤ length (data_at self.old d)) }
+        ensures written { OnOk result (self.new ≡ with_memory a (with_bytes (with_new (memory_at self.old a).bytes to n (bytes_from (data_at self.old d) from n)) (memory_at self.old a)) self.old) }
+        ensures trap { IfErr result (λ trap. trap ≡ Trap.MemoryRange) }
+        ensures cause { OnErr result ((length (memory_at self.old a).bytes < to + n) ⊎ (length (data_at self.old d) < from + n)) }
+        ensures refused { OnErr result (self.new ≡ self.old) }
+        ensures later { IsLater self.old self.new }
+    {
+        let bytes = self.datas[d.0 as usize].as_slice();
+        let memory = &mut self.memories[a.0 as usize];
+        if memory.write(to, bytes, from, n) {
+            Ok(())
+        } else {
+            Err(Trap::MemoryRange)
+        }
+    }
+
+    /// The bytes of a data segment, lent.
+    pub fn data(&self, d: DataAddr) -> &[u8]
+        requires { d.0 < length self.now.datas }
+        ensures { result.now ≡ data_at self.now d }
+    {
+        self.datas[d.0 as usize].as_slice()
+    }
+
+    /// Empties a data segment. It takes no memory.
+    pub fn data_drop(&mut self, d: DataAddr)
+        requires { d.0 < length self.old.datas }
+        ensures dropped { self.new ≡ with_data d [] self.old }
+        ensures later { IsLater self.old self.new }
+    {
+        self.datas[d.0 as usize] = Items::new(self.alloc);
+    }
+
+    /// The type of a memory, whose least size is the one that it has.
+    pub fn memory_type(&self, a: MemAddr) -> Limit
+        requires { a.0 < length self.now.memories }
+        ensures { result ≡ memory_type_of (memory_at self.now a) }
+    {
+        self.memories[a.0 as usize].ty()
     }
 
     /// The value of a global.

@@ -1,4 +1,4 @@
-use Rattle.wasm_store.proofs.LawLemmas.{values_stay_typed, modules_stay, functions_stay, tables_stay, globals_stay}
+use Rattle.wasm_store.proofs.LawLemmas.{values_stay_typed, modules_stay, functions_stay, tables_stay, memories_stay, globals_stay}
 use Rattle.wasm_store.proofs.laws.types_stay.Goals as goal
 
 pub returns-clause-values : goal.returns-clause-values
@@ -15,3 +15,6 @@ returns-clause-tables c = tables_stay
 
 pub returns-clause-globals : goal.returns-clause-globals
 returns-clause-globals c = globals_stay
+
+pub returns-clause-memories : goal.returns-clause-memories
+returns-clause-memories c = memories_stay

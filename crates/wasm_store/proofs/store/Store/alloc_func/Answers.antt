@@ -7,5 +7,10 @@ use Rattle.wasm_store.proofs.store.Store.alloc_func.Goals as goal
 
 pub invariant_of-self-2 : goal.invariant_of-self-2
 invariant_of-self-2 c =
-    rw c.in_ok-push.ensures.items
-    (whole_function c.args.f (store_of c.self.inside) c.self.invariant (subst (λ (s : Store). IsFunction s c.args.f) (sym c.self.view_is) c.requires.fits))
+    record {
+      whole = (
+          rw c.in_ok-push.ensures.items
+          (whole_function c.args.f (store_of c.self.inside) c.self.invariant.whole (subst (λ (s : Store). IsFunction s c.args.f) (sym c.self.view_is) c.requires.fits))
+          );
+      count = c.self.invariant.count;
+    }

@@ -7,6 +7,11 @@ use Rattle.wasm_store.proofs.store.Store.alloc_global.Goals as goal
 
 pub invariant_of-self-2 : goal.invariant_of-self-2
 invariant_of-self-2 c =
-    rw c.in_ok-push.ensures.items
-    (whole_new_global (record { ty = c.args.ty; value = c.args.v }) (store_of c.self.inside) c.self.invariant
-    (subst (λ (s : Store). HasType s c.args.v c.args.ty.val) (sym c.self.view_is) c.requires.typed))
+    record {
+      whole = (
+          rw c.in_ok-push.ensures.items
+          (whole_new_global (record { ty = c.args.ty; value = c.args.v }) (store_of c.self.inside) c.self.invariant.whole
+          (subst (λ (s : Store). HasType s c.args.v c.args.ty.val) (sym c.self.view_is) c.requires.typed))
+          );
+      count = c.self.invariant.count;
+    }

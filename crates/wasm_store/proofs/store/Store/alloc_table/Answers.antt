@@ -8,8 +8,13 @@ use Rattle.wasm_store.proofs.store.Store.alloc_table.Goals as goal
 
 pub invariant_of-self-2 : goal.invariant_of-self-2
 invariant_of-self-2 c =
-    let typed : HasType (store_of c.self.inside) c.args.init c.args.ty.elem = subst (λ (s : Store). HasType s c.args.init c.args.ty.elem) (sym c.self.view_is) c.requires.typed in
-    let few : c.args.ty.limit.min ≤ most_entries = omega arith in
-    let fits : IsTable (store_of c.self.inside) c.in_ok-table.table =
-    subst (λ (t : TableInst). IsTable (store_of c.self.inside) t) (sym c.in_ok-table.ensures) (new_table_fits (store_of c.self.inside) c.args.ty c.args.init c.requires.table few typed) in
-    rw c.in_ok-push.ensures.items (whole_new_table c.in_ok-table.table (store_of c.self.inside) c.self.invariant fits)
+    record {
+      whole = (
+          let typed : HasType (store_of c.self.inside) c.args.init c.args.ty.elem = subst (λ (s : Store). HasType s c.args.init c.args.ty.elem) (sym c.self.view_is) c.requires.typed in
+          let few : c.args.ty.limit.min ≤ most_entries = omega arith in
+          let fits : IsTable (store_of c.self.inside) c.in_ok-table.table =
+          subst (λ (t : TableInst). IsTable (store_of c.self.inside) t) (sym c.in_ok-table.ensures) (new_table_fits (store_of c.self.inside) c.args.ty c.args.init c.requires.table few typed) in
+          rw c.in_ok-push.ensures.items (whole_new_table c.in_ok-table.table (store_of c.self.inside) c.self.invariant.whole fits)
+          );
+      count = c.self.invariant.count;
+    }

@@ -7,7 +7,12 @@ use Rattle.wasm_store.proofs.store.Store.set_instance.Goals as goal
 
 pub invariant_of-self : goal.invariant_of-self
 invariant_of-self c =
-    whole_instance c.args.a c.args.i (store_of c.self.inside) c.self.invariant
-    (subst (λ (s : Store). IsBlank (instance_at s c.args.a)) (sym c.self.view_is) c.requires.blank)
-    (subst (λ (s : Store). c.args.i.module ≡ (instance_at s c.args.a).module) (sym c.self.view_is) c.requires.same_module)
-    (subst (λ (s : Store). HasLists s c.args.i) (sym c.self.view_is) c.requires.lists)
+    record {
+      whole = (
+          whole_instance c.args.a c.args.i (store_of c.self.inside) c.self.invariant.whole
+          (subst (λ (s : Store). IsBlank (instance_at s c.args.a)) (sym c.self.view_is) c.requires.blank)
+          (subst (λ (s : Store). c.args.i.module ≡ (instance_at s c.args.a).module) (sym c.self.view_is) c.requires.same_module)
+          (subst (λ (s : Store). HasLists s c.args.i) (sym c.self.view_is) c.requires.lists)
+          );
+      count = c.self.invariant.count;
+    }

@@ -19,11 +19,17 @@ typed c =
 
 done_ : (c : goal.Joined-write) → After (store_of c.self.inside) c.args.self.now c.args.a c.write.new.self
 done_ c =
-    write_after (store_of c.self.inside) c.args.self.now c.args.a c.index_mut-table.result.now c.write.new.self c.self.view_is c.self.invariant c.requires.live c.index_mut-table.ensures.value
+    write_after (store_of c.self.inside) c.args.self.now c.args.a c.index_mut-table.result.now c.write.new.self c.self.view_is c.self.invariant.whole c.requires.live c.index_mut-table.ensures.value
     c.args.to c.args.from c.args.n c.as_slice-items.result.now c.write.result (typed c) c.write.ensures.within.0 c.write.ensures.written c.write.ensures.refused
 
 pub invariant_of-self : goal.invariant_of-self
-invariant_of-self c = (done_ c).whole
+invariant_of-self c =
+    record {
+      whole = (
+          (done_ c).whole
+          );
+      count = c.self.invariant.count;
+    }
 
 pub returns-clause-later : goal.returns-clause-later
 returns-clause-later c = (done_ c).later

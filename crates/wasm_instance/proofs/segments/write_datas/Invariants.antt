@@ -1,0 +1,12 @@
+use Rattle.wasm_syntax.specs.declared.module.Data.{Data}
+use Rattle.wasm_syntax.specs.declared.addresses.DataAddr.{DataAddr}
+use Rattle.wasm_store.specs.Store.{instance_at}
+use Rattle.wasm_instance.specs.Instantiation.{init_data}
+use Rattle.wasm_instance.specs.Parts.{module_of, offset_in}
+use Rattle.wasm_instance.proofs.Writing.{IsLeft}
+use Rattle.wasm_instance.proofs.segments.write_datas.Given as goal
+
+abbrev pub invariant-loop-k : goal.invariant-loop-k
+invariant-loop-k l =
+    IsLeft DataAddr Data (λ e segment. init_data (instance_at l.initial.store l.i) (offset_in (module_of l.initial.store l.i) (instance_at l.initial.store l.i) l.values) e segment.mode)
+    (instance_at l.initial.store l.i).datas (module_of l.initial.store l.i).datas l.initial.store l.k l.store
