@@ -2,10 +2,12 @@
 //! are refused.
 #![tactic(auto)]
 
+mod expressions;
 mod reader;
 mod refusal;
 mod stack;
 mod state;
+mod statements;
 
 pub use reader::Reader;
 pub use refusal::{Refusal, refusal_of};
