@@ -3,10 +3,6 @@ use Rattle.std.proofs.Common.{◌≡◌, ℕ, ◌⊎◌, inl, inr, Bool, true, f
 use Rattle.std.specs.Option.{option_map, option_map_or}
 use Rattle.std.specs.Map.{lookup}
 use Rattle.std.proofs.lemmas.Bool.{eqb-true, eq-eqb}
-use Rattle.wasm_syntax.specs.declared.value.Value.{Value}
-use Rattle.wasm_syntax.specs.declared.value.Value.TheVariants as w
-use Rattle.wasm_syntax.specs.declared.types.ValType.{ValType}
-use Rattle.wasm_syntax.specs.declared.types.ValType.TheVariants as types
 use Rattle.host_values.specs.Objects.{HostHeap, HostObject}
 use Rattle.host_values.specs.Heaps.{kind_at, next_object, with_object}
 use Rattle.host_values.specs.declared.kinds.Kind.{Kind}
@@ -15,12 +11,10 @@ use Rattle.host_values.specs.declared.kinds.Callee.TheVariants as callees
 use Rattle.host_values.specs.declared.keys.Key.{Key}
 use Rattle.host_values.specs.declared.values.ObjId.{ObjId}
 use Rattle.host_values.specs.declared.values.HostValue.{HostValue}
-use Rattle.host_values.specs.declared.values.HostValue.TheVariants as values
 use Rattle.iface_caches.specs.declared.external.ExternalKind.{ExternalKind}
 use Rattle.iface_caches.specs.declared.external.ExternalKind.TheVariants as external
 use Rattle.iface_caches.specs.Caches.{Cache, HostCaches, cache_of, cached, heap_with_object_of, kind_of, place_of, with_cache, with_extern, with_object_of}
 use Rattle.iface_caches.specs.Agreement.{Agree, IsLater}
-use Rattle.iface_caches.specs.Conversions.{caches_with, heap_with, with_converted, with_reference}
 use Rattle.iface_caches.proofs.Lists.{get_last, get_left, get_pushed, lookup_kept, lookup_last}
 
 -- ---- kinds tell their address
