@@ -20,7 +20,7 @@ pub struct Reader {
     pub(crate) stack: Stack,
 }
 
-// One construct more, where there is room for it.
+/// One construct more, where there is room for it.
 pub fn deeper(depth: usize) -> Option<usize>
     ensures { result ≡ spec.deeper_of depth }
 {
@@ -30,6 +30,7 @@ pub fn deeper(depth: usize) -> Option<usize>
     Some(depth + 1)
 }
 
+/// A level with nothing before its operand.
 pub fn fresh(depth: usize) -> Level
     ensures { result ≡ spec.fresh_at depth }
 {

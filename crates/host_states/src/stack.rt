@@ -21,6 +21,7 @@ impl Model for Stack {
 }
 
 impl Stack {
+    /// The empty stack. It takes no memory.
     pub fn new(alloc: Global) -> Stack
         ensures { result ≡ [] }
     {
@@ -29,6 +30,7 @@ impl Stack {
         }
     }
 
+    /// Puts an item on top.
     pub fn push(&mut self, item: Open) -> Result<(), AllocError>
         ensures { OnOk result (self.new ≡ item ∷ self.old) }
     {
