@@ -1,4 +1,4 @@
--- Private: what a token does where the reader is, as a function of what is open alone.
+-- What a token does where the reader is, as a function of what is open alone.
 use Rattle.std.specs.Prelude.{◌≡◌, ℕ, suc, Bool, true, false, cond, nat_lt, List, [], ◌∷◌, Option, Some, None}
 use Rattle.host_lexer.specs.declared.token.Word.{Word}
 use Rattle.host_lexer.specs.declared.token.Word.TheVariants as words
