@@ -1,21 +1,18 @@
 -- Memories of a store: their sizes, and a store after one of them was written or grown.
-use Rattle.std.proofs.Common.{◌≡◌, ℕ, ◌+◌, ◌*◌, ◌/◌, ◌%◌, ◌<◌, ◌≤◌, List, [], ◌∷◌, ◌++◌, length, refl, sym, ap, ◌∙◌, subst, arith, length-append}
-use Rattle.std.specs.Prelude.{true, false, Bool, ◌&&◌, nat_le, Option, Some, None, Result, Ok, Err, unwrap_or, slice_index_or, slice_set, zero, suc}
-use Rattle.std.specs.List.{All}
-use Rattle.std.proofs.lemmas.List.{get_or_read, set-get_or, get_or_default, length-replicate}
+use Rattle.std.proofs.Common.{◌≡◌, ℕ, ◌+◌, ◌*◌, ◌/◌, ◌%◌, ◌<◌, ◌≤◌, List, [], ◌∷◌, ◌++◌, length, sym, ap, ◌∙◌, subst, arith, length-append}
+use Rattle.std.specs.Prelude.{true, ◌&&◌, nat_le, Option, Some, None, unwrap_or, slice_index_or, slice_set, zero, suc}
+use Rattle.std.proofs.lemmas.List.{get_or_read, length-replicate}
 use Rattle.std.proofs.lemmas.List.Elements.{All-push, All-set}
 use Rattle.std.proofs.lemmas.Bool.{leb-true}
 use Rattle.wasm_syntax.specs.declared.types.Limit.{Limit}
 use Rattle.wasm_syntax.specs.declared.addresses.MemAddr.{MemAddr}
-use Rattle.wasm_syntax.specs.declared.addresses.DataAddr.{DataAddr}
 use Rattle.raw_memory.specs.Bytes.{page_size, most_pages, zeros}
-use Rattle.wasm_valid.specs.ModuleRules.{is_memory, is_limit}
-use Rattle.wasm_store.specs.Store as st
+use Rattle.wasm_valid.specs.ModuleRules.{is_memory}
 use Rattle.wasm_store.specs.Store.{Store, MemInst}
-use Rattle.wasm_store.specs.Memories.{no_memory, memory_at, with_new_memory, with_memory, with_new_data, with_data, with_bytes, pages_of, all_pages, most_pages_in_all, new_memory, grown_memory, may_have_memory, may_grow_memory, IsMemory, AreMemories, SameSize}
+use Rattle.wasm_store.specs.Memories.{no_memory, memory_at, with_new_memory, with_memory, pages_of, all_pages, most_pages_in_all, new_memory, grown_memory, may_have_memory, may_grow_memory, IsMemory, SameSize}
 use Rattle.wasm_store.specs.Whole.{IsWhole, IsLater, MemoryStays}
 use Rattle.wasm_store.proofs.Later as later
-use Rattle.wasm_store.proofs.Keeps.{whole_memories, whole_datas}
+use Rattle.wasm_store.proofs.Keeps.{whole_memories}
 use Rattle.wasm_store.proofs.RuleLaws.{left_true, right_true}
 
 -- Pages.

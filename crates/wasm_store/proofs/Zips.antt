@@ -1,5 +1,5 @@
 -- Lists of which each pair is as a relation says.
-use Rattle.std.proofs.Common.{◌≡◌, ℕ, List, [], ◌∷◌, ◌++◌, refl, ap, subst}
+use Rattle.std.proofs.Common.{◌≡◌, ℕ, List, [], ◌∷◌, ◌++◌, refl, subst}
 use Rattle.std.specs.Prelude.{Some, None, slice_get, zero, suc}
 use Rattle.std.specs.List.{AllZip}
 

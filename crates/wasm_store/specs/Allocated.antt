@@ -1,6 +1,6 @@
 -- What a module becomes in a store (WebAssembly Core 2.0, section 4.5.3.8): its functions, tables, memories, globals, element and data
 -- segments, in this order, each kind in the order of the module.
-use Rattle.std.specs.Prelude.{◌≡◌, ℕ, zero, suc, ◌*◌, ◌<◌, ◌≤◌, true, List, [], ◌∷◌, ◌++◌, length, map, filter_map, replicate, slice_index_or}
+use Rattle.std.specs.Prelude.{◌≡◌, ℕ, zero, suc, ◌<◌, ◌≤◌, true, List, [], ◌∷◌, ◌++◌, length, map, filter_map, slice_index_or}
 use Rattle.std.specs.List.{All, AllZip}
 use Rattle.wasm_syntax.specs.Blocks.{block_of}
 use Rattle.wasm_syntax.specs.declared.types.ValType.{ValType}
