@@ -1,6 +1,6 @@
 -- A rewriting of the innermost frame's term is one of the whole term, with the same charge.
-use Rattle.std.proofs.Common.{◌≡◌, ℕ, zero, suc, ◌+◌, ◌-◌, ◌≤◌, List, [], ◌∷◌, ◌++◌, length, refl, sym, ap, ◌∙◌, subst, arith, true}
-use Rattle.std.specs.Prelude.{slice_index_or, nat_le, cond, reverse}
+use Rattle.std.proofs.Common.{◌≡◌, ℕ, suc, ◌+◌, ◌-◌, ◌≤◌, List, [], ◌∷◌, ◌++◌, length, refl, ap, ◌∙◌, arith, true}
+use Rattle.std.specs.Prelude.{slice_index_or, nat_le, cond}
 use Rattle.std.proofs.lemmas.Bool.{le-leb}
 use Rattle.wasm_syntax.specs.declared.instructions.Instr.{Instr}
 use Rattle.wasm_syntax.specs.declared.module.Module.{Module}
@@ -8,11 +8,11 @@ use Rattle.wasm_syntax.specs.declared.value.Value.{Value}
 use Rattle.wasm_syntax.specs.declared.trap.Trap.{Trap}
 use Rattle.wasm_syntax.specs.declared.addresses.FuncAddr.{FuncAddr}
 use Rattle.wasm_store.specs.Store.{Store, no_module}
-use Rattle.wasm_machine.specs.Terms.{FrameState, label, Term, here, invoke, trap, throw, inside, with_form}
+use Rattle.wasm_machine.specs.Terms.{FrameState, Term, here, invoke, trap, throw, inside, with_form}
 use Rattle.wasm_machine.specs.Charges.{charge_in, charge_of}
 use Rattle.wasm_machine.specs.Reduction.{Does, rewrites, gives, calls, traps, throws, in_level, reduce}
-use Rattle.wasm_machine.specs.View.{View, Open, values_of, with_values, next_code, code_at, level_of, close, state_of, frame_level, term_round, module_for, term_of}
-use Rattle.wasm_calls.specs.Calls.{Configuration, running, ended, trapped, thrown, frames_in, after, outermost, next}
+use Rattle.wasm_machine.specs.View.{View, Open, values_of, with_values, code_at, level_of, close, state_of, frame_level, term_round, module_for, term_of}
+use Rattle.wasm_calls.specs.Calls.{past_budget, running, ended, trapped, thrown, frames_in, after, outermost, next}
 use Rattle.wasm_calls.specs.Activations.{frames_round, given, Leads}
 use Rattle.wasm_calls.proofs.Repeating.{leads, leads_to}
 
@@ -73,7 +73,7 @@ module _ (s : Store) where
   round_goes : (v : View) (t : Term) (r : Store) (u : Term) → reduce s (state_of v) t ≡ rewrites r (state_of v) u → (F : FrameState) → reduce s F (term_round (module_for s v) v t) ≡ rewrites r F (term_round (module_for s v) v u)
   round_goes v t r u e F = ap (in_level s F (frame_level v)) (close_goes (state_of v) (module_for s v) (v.top ∷ v.outer) t r (state_of v) u e)
 
-  all_goes : (vs : List View) (t : Term) (r : Store) (u : Term) → ((F : FrameState) → reduce s F t ≡ rewrites r F u) → (F : FrameState) → reduce s F (frames_round s vs t) ≡ rewrites r F (frames_round s vs u)
+  pub all_goes : (vs : List View) (t : Term) (r : Store) (u : Term) → ((F : FrameState) → reduce s F t ≡ rewrites r F u) → (F : FrameState) → reduce s F (frames_round s vs t) ≡ rewrites r F (frames_round s vs u)
   all_goes [] t r u h = h
   all_goes (v ∷ vs) t r u h = all_goes vs (term_round (module_for s v) v t) r (term_round (module_for s v) v u) (round_goes v t r u (h (state_of v)))
 
@@ -120,7 +120,7 @@ module _ (s : Store) where
   pub goes_next : (t : Term) (left c : ℕ) (d : Does) → charge_of t ≡ c → c ≤ left → reduce s outermost t ≡ d → next (running s t left) ≡ after s t (left - c) d
   goes_next t left c d e le r =
       let pays : nat_le (charge_of t) left ≡ true = le-leb (charge_of t) left (omega (arith, e, le)) in
-      ap (λ b. cond b (after s t (left - charge_of t) (reduce s outermost t)) (ended s (Calls.past_budget (charge_of t)) left)) pays
+      ap (λ b. cond b (after s t (left - charge_of t) (reduce s outermost t)) (ended s (past_budget (charge_of t)) left)) pays
       ∙ ap (λ k. after s t (left - k) (reduce s outermost t)) e ∙ ap (after s t (left - c)) r
 
   pub free_next : (t : Term) (left : ℕ) (d : Does) → charge_of t ≡ 0 → reduce s outermost t ≡ d → next (running s t left) ≡ after s t left d

@@ -25,99 +25,105 @@ use Rattle.wasm_store.specs.declared.instances.Instance.{Instance}
 use Rattle.wasm_store.specs.Store.{Store, instance_at, table_at, type_of, function_at}
 use Rattle.wasm_machine.specs.Terms.{FrameState, Kind, Term}
 use Rattle.wasm_machine.specs.Performing.{Performed, performs, traps, lacks, perform, perform_drop, perform_select, perform_is_null, take_value, take_i32, take_number, find, check, result, read_entry, grow_by, grow_memory_by, is_null}
-use Rattle.wasm_machine.specs.Reduction.{Act, goes, branches, returns, cannot, module_of, topmost, of_performed, opened, begun, nested, branch_if, branch_table, invoked, call, call_index, same_func_type, call_typed, call_entry, call_through, act_by, act}
+use Rattle.wasm_machine.specs.Reduction.{Act, goes, branches, returns, cannot, module_of, topmost, of_performed, opened, begun, nested, branch_if, branch_table, invoked, call, call_index, same_func_type, call_entry, call_through, act_by, act}
 use Rattle.wasm_calls.specs.Calls.{weight}
 use Rattle.wasm_calls.specs.Answers.{HasSameCode}
 
 pub same : (s : Store) → HasSameCode s s
 same s = record { modules = refl; instances = refl; functions = refl }
 
-abbrev Keeps : Store → Performed → Type 0
-Keeps s (performs r F vs) = HasSameCode s r
-Keeps s (traps cause) = Unit {0}
-Keeps s lacks = Unit {0}
+abbrev Kept : Store → Performed → Type 0
+Kept s (performs r F vs) = HasSameCode s r
+Kept s (traps cause) = Unit {0}
+Kept s lacks = Unit {0}
+
+record Keeps (s : Store) (d : Performed) : Type 0 where
+  kept : Kept s d
 
 module _ (s : Store) where
   keeps_value : (vs : List Value) (f : Value → List Value → Performed) → ((v : Value) (us : List Value) → Keeps s (f v us)) → Keeps s (take_value vs f)
-  keeps_value [] f h = tt
+  keeps_value [] f h = record { kept = tt }
   keeps_value (v ∷ vs) f h = h v vs
 
   keeps_i32 : (vs : List Value) (f : ℕ → List Value → Performed) → ((k : ℕ) (us : List Value) → Keeps s (f k us)) → Keeps s (take_i32 vs f)
   keeps_i32 (w.I32 k ∷ vs) f h = h k vs
-  keeps_i32 _ f h = tt
+  keeps_i32 _ f h = record { kept = tt }
 
   keeps_number : (t : NumType) (vs : List Value) (f : Num → List Value → Performed) → ((a : Num) (us : List Value) → Keeps s (f a us)) → Keeps s (take_number t vs f)
   keeps_number n.I32 (w.I32 k ∷ vs) f h = h _ vs
   keeps_number n.I64 (w.I64 k ∷ vs) f h = h _ vs
-  keeps_number _ _ f h = tt
+  keeps_number _ _ f h = record { kept = tt }
 
   keeps_find : {A : Type 0} (o : Option A) (f : A → Performed) → ((a : A) → Keeps s (f a)) → Keeps s (find o f)
-  keeps_find None f h = tt
+  keeps_find None f h = record { kept = tt }
   keeps_find (Some a) f h = h a
 
   keeps_check : (t : Trap) (b : Bool) (q : Performed) → Keeps s q → Keeps s (check t b q)
   keeps_check t true q h = h
-  keeps_check t false q h = tt
+  keeps_check t false q h = record { kept = tt }
 
   keeps_result : (F vs : List Value) (r : Result Num Trap) → Keeps s (result s F vs r)
-  keeps_result F vs (Ok c) = same s
-  keeps_result F vs (Err t) = tt
+  keeps_result F vs (Ok c) = record { kept = same s }
+  keeps_result F vs (Err t) = record { kept = tt }
 
   keeps_entry : (F vs : List Value) (o : Option Value) → Keeps s (read_entry s F vs o)
-  keeps_entry F vs None = tt
-  keeps_entry F vs (Some v) = same s
+  keeps_entry F vs None = record { kept = tt }
+  keeps_entry F vs (Some v) = record { kept = same s }
 
-  written : (r : Store) → r.modules ≡ s.modules → r.instances ≡ s.instances → r.functions ≡ s.functions → HasSameCode s r
-  written r a b c = record { modules = a; instances = b; functions = c }
+  written : (r : Store) (F vs : List Value) → r.modules ≡ s.modules → r.instances ≡ s.instances → r.functions ≡ s.functions → Keeps s (performs r F vs)
+  written r F vs a b c = record { kept = record { modules = a; instances = b; functions = c } }
+
+  goes_on : (F vs : List Value) → Keeps s (performs s F vs)
+  goes_on F vs = record { kept = same s }
 
   keeps_grow : (b : Bool) (F vs : List Value) (a : TableAddr) (k : ℕ) (init : Value) → Keeps s (grow_by b s F vs a k init)
-  keeps_grow true F vs a k init = written _ refl refl refl
-  keeps_grow false F vs a k init = same s
+  keeps_grow true F vs a k init = written _ _ _ refl refl refl
+  keeps_grow false F vs a k init = goes_on _ _
 
   keeps_grow_memory : (b : Bool) (F vs : List Value) (a : MemAddr) (k : ℕ) → Keeps s (grow_memory_by b s F vs a k)
-  keeps_grow_memory true F vs a k = written _ refl refl refl
-  keeps_grow_memory false F vs a k = same s
+  keeps_grow_memory true F vs a k = written _ _ _ refl refl refl
+  keeps_grow_memory false F vs a k = goes_on _ _
 
   keeps_simple : (i : Instance) (F vs : List Value) (k : Simple) → Keeps s (perform s i F vs k)
-  keeps_simple i F vs p.Nop = same s
-  keeps_simple i F vs (p.Const c) = same s
-  keeps_simple i F vs (p.Unary t op) = keeps_number t vs _ (λ a us. same s)
+  keeps_simple i F vs p.Nop = goes_on _ _
+  keeps_simple i F vs (p.Const c) = goes_on _ _
+  keeps_simple i F vs (p.Unary t op) = keeps_number t vs _ (λ a us. goes_on _ _)
   keeps_simple i F vs (p.Binary t op) = keeps_number t vs _ (λ b us. keeps_number t us _ (λ a ts. keeps_result F ts _))
-  keeps_simple i F vs (p.Test t) = keeps_number t vs _ (λ a us. same s)
-  keeps_simple i F vs (p.Compare t op) = keeps_number t vs _ (λ b us. keeps_number t us _ (λ a ts. same s))
-  keeps_simple i F vs (p.Convert op) = keeps_number (source_of op) vs _ (λ a us. same s)
-  keeps_simple i F vs (p.RefNull t) = same s
-  keeps_simple i F vs (p.RefFunc y) = keeps_find (slice_get i.funcs y) _ (λ a. same s)
-  keeps_simple i F vs (p.LocalGet y) = keeps_find (slice_get F y) _ (λ v. same s)
-  keeps_simple i F vs (p.LocalSet y) = keeps_find (slice_get F y) _ (λ old. keeps_value vs _ (λ v us. same s))
-  keeps_simple i F vs (p.LocalTee y) = keeps_find (slice_get F y) _ (λ old. keeps_value vs _ (λ v us. same s))
-  keeps_simple i F vs (p.GlobalGet y) = keeps_find (slice_get i.globals y) _ (λ a. same s)
-  keeps_simple i F vs (p.GlobalSet y) = keeps_find (slice_get i.globals y) _ (λ a. keeps_value vs _ (λ v us. written _ refl refl refl))
+  keeps_simple i F vs (p.Test t) = keeps_number t vs _ (λ a us. goes_on _ _)
+  keeps_simple i F vs (p.Compare t op) = keeps_number t vs _ (λ b us. keeps_number t us _ (λ a ts. goes_on _ _))
+  keeps_simple i F vs (p.Convert op) = keeps_number (source_of op) vs _ (λ a us. goes_on _ _)
+  keeps_simple i F vs (p.RefNull t) = goes_on _ _
+  keeps_simple i F vs (p.RefFunc y) = keeps_find (slice_get i.funcs y) _ (λ a. goes_on _ _)
+  keeps_simple i F vs (p.LocalGet y) = keeps_find (slice_get F y) _ (λ v. goes_on _ _)
+  keeps_simple i F vs (p.LocalSet y) = keeps_find (slice_get F y) _ (λ old. keeps_value vs _ (λ v us. goes_on _ _))
+  keeps_simple i F vs (p.LocalTee y) = keeps_find (slice_get F y) _ (λ old. keeps_value vs _ (λ v us. goes_on _ _))
+  keeps_simple i F vs (p.GlobalGet y) = keeps_find (slice_get i.globals y) _ (λ a. goes_on _ _)
+  keeps_simple i F vs (p.GlobalSet y) = keeps_find (slice_get i.globals y) _ (λ a. keeps_value vs _ (λ v us. written _ _ _ refl refl refl))
   keeps_simple i F vs (p.TableGet y) = keeps_find (slice_get i.tables y) _ (λ a. keeps_i32 vs _ (λ k us. keeps_entry F us _))
-  keeps_simple i F vs (p.TableSet y) = keeps_find (slice_get i.tables y) _ (λ a. keeps_value vs _ (λ v us. keeps_i32 us _ (λ k ts. keeps_check _ _ _ (written _ refl refl refl))))
-  keeps_simple i F vs (p.TableSize y) = keeps_find (slice_get i.tables y) _ (λ a. same s)
+  keeps_simple i F vs (p.TableSet y) = keeps_find (slice_get i.tables y) _ (λ a. keeps_value vs _ (λ v us. keeps_i32 us _ (λ k ts. keeps_check _ _ _ (written _ _ _ refl refl refl))))
+  keeps_simple i F vs (p.TableSize y) = keeps_find (slice_get i.tables y) _ (λ a. goes_on _ _)
   keeps_simple i F vs (p.TableGrow y) = keeps_find (slice_get i.tables y) _ (λ a. keeps_i32 vs _ (λ k us. keeps_value us _ (λ init ts. keeps_grow _ F ts a k init)))
-  keeps_simple i F vs (p.TableFill y) = keeps_find (slice_get i.tables y) _ (λ a. keeps_i32 vs _ (λ k us. keeps_value us _ (λ v ts. keeps_i32 ts _ (λ at rest. keeps_check _ _ _ (written _ refl refl refl)))))
-  keeps_simple i F vs (p.TableCopy to from) = keeps_find (slice_get i.tables to) _ (λ a. keeps_find (slice_get i.tables from) _ (λ b. keeps_i32 vs _ (λ k us. keeps_i32 us _ (λ source ts. keeps_i32 ts _ (λ at rest. keeps_check _ _ _ (written _ refl refl refl))))))
-  keeps_simple i F vs (p.TableInit y z) = keeps_find (slice_get i.tables z) _ (λ a. keeps_find (slice_get i.elems y) _ (λ e. keeps_i32 vs _ (λ k us. keeps_i32 us _ (λ source ts. keeps_i32 ts _ (λ at rest. keeps_check _ _ _ (written _ refl refl refl))))))
-  keeps_simple i F vs (p.ElemDrop y) = keeps_find (slice_get i.elems y) _ (λ e. written _ refl refl refl)
-  keeps_simple i F vs (p.Load t width extension at) = keeps_find (slice_get i.mems 0) _ (λ a. keeps_i32 vs _ (λ k us. keeps_check _ _ _ (same s)))
-  keeps_simple i F vs (p.Store t width at) = keeps_find (slice_get i.mems 0) _ (λ a. keeps_number t vs _ (λ c us. keeps_i32 us _ (λ k ts. keeps_check _ _ _ (written _ refl refl refl))))
-  keeps_simple i F vs p.MemorySize = keeps_find (slice_get i.mems 0) _ (λ a. same s)
+  keeps_simple i F vs (p.TableFill y) = keeps_find (slice_get i.tables y) _ (λ a. keeps_i32 vs _ (λ k us. keeps_value us _ (λ v ts. keeps_i32 ts _ (λ at rest. keeps_check _ _ _ (written _ _ _ refl refl refl)))))
+  keeps_simple i F vs (p.TableCopy to from) = keeps_find (slice_get i.tables to) _ (λ a. keeps_find (slice_get i.tables from) _ (λ b. keeps_i32 vs _ (λ k us. keeps_i32 us _ (λ source ts. keeps_i32 ts _ (λ at rest. keeps_check _ _ _ (written _ _ _ refl refl refl))))))
+  keeps_simple i F vs (p.TableInit y z) = keeps_find (slice_get i.tables z) _ (λ a. keeps_find (slice_get i.elems y) _ (λ e. keeps_i32 vs _ (λ k us. keeps_i32 us _ (λ source ts. keeps_i32 ts _ (λ at rest. keeps_check _ _ _ (written _ _ _ refl refl refl))))))
+  keeps_simple i F vs (p.ElemDrop y) = keeps_find (slice_get i.elems y) _ (λ e. written _ _ _ refl refl refl)
+  keeps_simple i F vs (p.Load t width extension at) = keeps_find (slice_get i.mems 0) _ (λ a. keeps_i32 vs _ (λ k us. keeps_check _ _ _ (goes_on _ _)))
+  keeps_simple i F vs (p.Store t width at) = keeps_find (slice_get i.mems 0) _ (λ a. keeps_number t vs _ (λ c us. keeps_i32 us _ (λ k ts. keeps_check _ _ _ (written _ _ _ refl refl refl))))
+  keeps_simple i F vs p.MemorySize = keeps_find (slice_get i.mems 0) _ (λ a. goes_on _ _)
   keeps_simple i F vs p.MemoryGrow = keeps_find (slice_get i.mems 0) _ (λ a. keeps_i32 vs _ (λ k us. keeps_grow_memory _ F us a k))
-  keeps_simple i F vs p.MemoryFill = keeps_find (slice_get i.mems 0) _ (λ a. keeps_i32 vs _ (λ k us. keeps_i32 us _ (λ byte ts. keeps_i32 ts _ (λ at rest. keeps_check _ _ _ (written _ refl refl refl)))))
-  keeps_simple i F vs p.MemoryCopy = keeps_find (slice_get i.mems 0) _ (λ a. keeps_i32 vs _ (λ k us. keeps_i32 us _ (λ source ts. keeps_i32 ts _ (λ at rest. keeps_check _ _ _ (written _ refl refl refl)))))
-  keeps_simple i F vs (p.MemoryInit y) = keeps_find (slice_get i.mems 0) _ (λ a. keeps_find (slice_get i.datas y) _ (λ d. keeps_i32 vs _ (λ k us. keeps_i32 us _ (λ source ts. keeps_i32 ts _ (λ at rest. keeps_check _ _ _ (written _ refl refl refl))))))
-  keeps_simple i F vs (p.DataDrop y) = keeps_find (slice_get i.datas y) _ (λ d. written _ refl refl refl)
+  keeps_simple i F vs p.MemoryFill = keeps_find (slice_get i.mems 0) _ (λ a. keeps_i32 vs _ (λ k us. keeps_i32 us _ (λ byte ts. keeps_i32 ts _ (λ at rest. keeps_check _ _ _ (written _ _ _ refl refl refl)))))
+  keeps_simple i F vs p.MemoryCopy = keeps_find (slice_get i.mems 0) _ (λ a. keeps_i32 vs _ (λ k us. keeps_i32 us _ (λ source ts. keeps_i32 ts _ (λ at rest. keeps_check _ _ _ (written _ _ _ refl refl refl)))))
+  keeps_simple i F vs (p.MemoryInit y) = keeps_find (slice_get i.mems 0) _ (λ a. keeps_find (slice_get i.datas y) _ (λ d. keeps_i32 vs _ (λ k us. keeps_i32 us _ (λ source ts. keeps_i32 ts _ (λ at rest. keeps_check _ _ _ (written _ _ _ refl refl refl))))))
+  keeps_simple i F vs (p.DataDrop y) = keeps_find (slice_get i.datas y) _ (λ d. written _ _ _ refl refl refl)
 
   keeps_drop : (F vs : List Value) → Keeps s (perform_drop s F vs)
-  keeps_drop F vs = keeps_value vs _ (λ v us. same s)
+  keeps_drop F vs = keeps_value vs _ (λ v us. goes_on _ _)
 
   keeps_select : (F vs : List Value) → Keeps s (perform_select s F vs)
-  keeps_select F vs = keeps_i32 vs _ (λ k us. keeps_value us _ (λ second ts. keeps_value ts _ (λ first rest. same s)))
+  keeps_select F vs = keeps_i32 vs _ (λ k us. keeps_value us _ (λ second ts. keeps_value ts _ (λ first rest. goes_on _ _)))
 
   keeps_is_null : (F vs : List Value) → Keeps s (perform_is_null s F vs)
-  keeps_is_null F vs = keeps_value vs _ (λ v us. keeps_find (is_null v) _ (λ test. same s))
+  keeps_is_null F vs = keeps_value vs _ (λ v us. keeps_find (is_null v) _ (λ test. goes_on _ _))
 
   -- The form that an instruction leaves.
 
@@ -128,7 +134,7 @@ module _ (s : Store) where
   IsGentle cannot = Unit {0}
 
   gentle_performed : (F : FrameState) (vs : List Value) (d : Performed) → Keeps s d → IsGentle (of_performed s F vs d)
-  gentle_performed F vs (performs r G ws) h = (h, omega arith)
+  gentle_performed F vs (performs r G ws) h = (h.kept, omega arith)
   gentle_performed F vs (traps cause) h = (same s, omega arith)
   gentle_performed F vs lacks h = tt
 

@@ -1,7 +1,9 @@
 -- A run ends within its bound, and what has ended stays.
 use Rattle.std.proofs.Common.{◌≡◌, ℕ, zero, suc, ◌+◌, ◌*◌, ◌-◌, ◌≤◌, ◌<◌, List, [], ◌∷◌, refl, sym, ap, ◌∙◌, subst, arith, Option, Some, None, Bool, true, false, cond}
-use Rattle.std.specs.Prelude.{nat_le, nat_lt, reverse}
-use Rattle.std.proofs.lemmas.Bool.{le-leb, leb-false, lt-leb}
+use Rattle.std.specs.Prelude.{nat_le, nat_lt, slice_get}
+use Rattle.std.proofs.lemmas.Bool.{leb-true}
+use Rattle.std.proofs.lemmas.Option.{same_Some}
+use Rattle.wasm_valid.specs.Spaces.{then_}
 use Rattle.wasm_syntax.specs.declared.value.Value.{Value}
 use Rattle.wasm_syntax.specs.declared.addresses.FuncAddr.{FuncAddr}
 use Rattle.wasm_store.specs.declared.instances.FuncInst.{FuncInst}
@@ -11,14 +13,18 @@ use Rattle.wasm_store.specs.Store.{Store, module_at, instance_at, function_at}
 use Rattle.wasm_machine.specs.Terms.{Term, throw, with_form}
 use Rattle.wasm_machine.specs.Charges.{charge_of}
 use Rattle.wasm_machine.specs.Reduction.{Does, asks, rewrites, gives, breaks, leaves, calls, traps, throws, stuck, reduce, frame_of, frame_for}
-use Rattle.wasm_calls.specs.Calls.{Configuration, running, ended, most_frames, stack_exhausted, frames_in, entered, called, after, outermost, next, repeated, weight, most_rewritings, end_of}
+use Rattle.wasm_calls.specs.Calls.{Configuration, Outcome, past_budget, running, ended, most_frames, stack_exhausted, frames_in, entered, after, outermost, next, repeated, weight, most_rewritings, end_of}
 use Rattle.wasm_calls.specs.Laws.{HasEnded, RunsEnd, EndsStay}
 use Rattle.wasm_calls.specs.Activations.{Reaches, Leads}
 use Rattle.wasm_calls.proofs.Weights.{IsFine, fine}
 
+light_of : (make : Func → Term) (o : Option Func) (body : Term) → ((own : Func) → weight (make own) ≡ 2) → then_ o (λ own. Some (make own)) ≡ Some body → weight body ≡ 2
+light_of make None body h e = absurd (let k : ◌≡◌ None (Some body) = e in cc)
+light_of make (Some own) body h e = ap weight (sym (same_Some (make own) body e)) ∙ h own
+
 -- a called function's frame is lighter than its call
 frame_light : (s : Store) (g : FuncInst) (args : List Value) (body : Term) → frame_of s g args ≡ Some body → weight body ≡ 2
-frame_light s (f.Wasm g a x) args body e = ?
+frame_light s (f.Wasm g a x) args body e = light_of _ (slice_get (module_at s (instance_at s a).module).funcs x) body (λ own. refl) e
 frame_light s (f.Host g callee) args body e = absurd (let h : ◌≡◌ None (Some body) = e in cc)
 frame_light s (f.Suspending g callee) args body e = absurd (let h : ◌≡◌ None (Some body) = e in cc)
 
@@ -47,8 +53,8 @@ module _ (s : Store) where
   after_less t left c stuck h e le = omega arith
 
   next_less : (t : Term) (left : ℕ) (b : Bool) → nat_le (charge_of t) left ≡ b
-      → most_rewritings (cond b (after s t (left - charge_of t) (reduce s outermost t)) (ended s (Outcome.past_budget (charge_of t)) left)) < most_rewritings (running s t left)
-  next_less t left true e = after_less t left (charge_of t) (reduce s outermost t) (fine s outermost t) refl ?
+      → most_rewritings (cond b (after s t (left - charge_of t) (reduce s outermost t)) (ended s (past_budget (charge_of t)) left)) < most_rewritings (running s t left)
+  next_less t left true e = after_less t left (charge_of t) (reduce s outermost t) (fine s outermost t) refl (leb-true (charge_of t) left e)
   next_less t left false e = omega arith
 
 pub less : (s : Store) (t : Term) (left : ℕ) → most_rewritings (next (running s t left)) < most_rewritings (running s t left)

@@ -1,34 +1,34 @@
 -- What a step of the innermost frame makes of the whole run.
-use Rattle.std.proofs.Common.{◌≡◌, inl, inr, ◌⊎◌, ℕ, zero, suc, ◌+◌, ◌-◌, ◌≤◌, List, [], ◌∷◌, ◌++◌, length, refl, sym, ap, ◌∙◌, subst, arith}
-use Rattle.std.specs.Prelude.{reverse, slice_index_or}
-use Rattle.std.specs.List.{All, AllZip}
+use Rattle.std.proofs.Common.{◌≡◌, inl, inr, ℕ, ◌-◌, ◌≤◌, ◌<◌, false, List, [], ◌∷◌, refl, sym, ap, ◌∙◌, subst, arith}
+use Rattle.std.specs.Prelude.{reverse, slice_index_or, nat_le, cond}
+use Rattle.std.proofs.lemmas.Bool.{lt-leb}
+use Rattle.std.specs.List.{All}
 use Rattle.std.proofs.lemmas.List.Elements.{All-weaker}
 use Rattle.wasm_syntax.specs.declared.types.ValType.{ValType}
 use Rattle.wasm_syntax.specs.declared.value.Value.{Value}
 use Rattle.wasm_syntax.specs.declared.trap.Trap.{Trap}
-use Rattle.wasm_syntax.specs.declared.addresses.FuncAddr.{FuncAddr}
 use Rattle.wasm_store.specs.declared.instances.FuncInst.{FuncInst}
 use Rattle.wasm_store.specs.declared.instances.FuncInst.TheVariants as f
 use Rattle.wasm_store.specs.declared.instances.Instance.{Instance}
-use Rattle.wasm_store.specs.Store.{Store, instance_at, blank}
+use Rattle.wasm_store.specs.Store.{Store, blank}
 use Rattle.wasm_store.specs.Whole.{IsBlank, IsLater}
 use Rattle.wasm_machine.specs.Terms.{FrameState, Term, here, invoke, trap, throw, inside}
 use Rattle.wasm_machine.specs.Charges.{charge_of}
-use Rattle.wasm_machine.specs.Reduction.{Does, asks, rewrites, gives, calls, traps, throws, reduce}
+use Rattle.wasm_machine.specs.Reduction.{asks, rewrites, gives, reduce}
 use Rattle.wasm_machine.specs.View.{View, module_for, term_round, term_of}
-use Rattle.wasm_machine.specs.Fits.{Waits, WaitingStays, Fits}
+use Rattle.wasm_machine.specs.Fits.{WaitingStays, Fits}
 use Rattle.wasm_machine.specs.Entering.{HasCode}
 use Rattle.wasm_machine.specs.Steps.{EndsIn, TrapsIn, Makes, LeavesFit}
 use Rattle.wasm_machine.specs.declared.frame.Effect.{Effect}
 use Rattle.wasm_machine.specs.declared.frame.Effect.TheVariants.{Went, Call, Returned, Trapped, Grew}
 use Rattle.wasm_calls.specs.declared.activations.Activations.{Activations}
-use Rattle.wasm_calls.specs.Calls.{Configuration, running, ended, trapped, outermost}
+use Rattle.wasm_calls.specs.Calls.{Configuration, running, ended, trapped, past_budget, after, outermost}
 use Rattle.wasm_calls.specs.Answers.{AllHaveCode, HasSameCode}
-use Rattle.wasm_calls.specs.Activations.{frames_round, outer_of, configuration_of, calling, given, pending, Leads, Reaches, AreWaiting, IsRound, Works, IsPending}
+use Rattle.wasm_calls.specs.Activations.{frames_round, outer_of, configuration_of, calling, given, pending, Leads, AreWaiting, IsRound, Works, IsPending}
 use Rattle.wasm_calls.proofs.Keeping.{same}
 use Rattle.wasm_calls.proofs.Weights.{IsFine, fine}
 use Rattle.wasm_calls.proofs.Repeating.{leads, leads_to}
-use Rattle.wasm_calls.proofs.Frames.{IsSteady, charge_all, moved, all_goes, goes_under, state_round, gives_under, goes_next, free_next, unwind_trap}
+use Rattle.wasm_calls.proofs.Frames.{IsSteady, charge_all, moved, goes_under, state_round, gives_under, goes_next, free_next, unwind_trap}
 
 -- a form that becomes something is a list at work
 steady_gives : (s : Store) (F : FrameState) (u : Term) (ws : List Value) → reduce s F u ≡ gives ws [] → IsSteady u
@@ -133,3 +133,12 @@ step_leaves stay s a e r w left l m f R h =
     let c = same_code s (term_of s a.top) e r w m in
     let k = round_later stay s r R h.own a l c h.round in
     record { own = h.own; round = record { waiting = k.waiting; few = k.few; code = k.code }; leaves = f h.own h.fits }
+
+-- a step that takes more than is left
+pub step_past : (s : Store) (a : Activations) (needs : ℕ) → needs ≡ charge_of (term_of s a.top) → a.left < needs → Leads (configuration_of s a) (ended s (past_budget needs) a.left)
+step_past s a needs e lt =
+    let t = frames_round s (outer_of a) (term_of s a.top) in
+    let k : charge_of t ≡ needs = charge_all s (outer_of a) (term_of s a.top) (λ vs is. refl) ∙ sym e in
+    let over : nat_le (charge_of t) a.left ≡ false = lt-leb (charge_of t) a.left (omega (arith, k, lt)) in
+    leads s t a.left _
+    (ap (λ b. cond b (after s t (a.left - charge_of t) (reduce s outermost t)) (ended s (past_budget (charge_of t)) a.left)) over ∙ ap (λ n. ended s (past_budget n) a.left) k)

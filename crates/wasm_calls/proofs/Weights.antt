@@ -1,15 +1,14 @@
 -- A rewriting keeps the modules, instances and functions of the store, and makes a term lighter but for its charge.
-use Rattle.std.proofs.Common.{◌≡◌, ℕ, zero, suc, ◌+◌, ◌*◌, ◌≤◌, ◌<◌, List, [], ◌∷◌, ◌++◌, refl, sym, subst, arith, Option, Some, None, Bool, true, false, cond, length}
+use Rattle.std.proofs.Common.{◌≡◌, ℕ, zero, suc, ◌+◌, ◌*◌, ◌≤◌, ◌<◌, List, [], ◌∷◌, refl, sym, subst, arith, Option, Some, None, true, false, cond, length}
 use Rattle.std.specs.Prelude.{◌==◌}
 use Rattle.wasm_syntax.specs.declared.value.Value.{Value}
-use Rattle.wasm_syntax.specs.declared.trap.Trap.{Trap}
 use Rattle.wasm_syntax.specs.declared.instructions.Instr.{Instr}
 use Rattle.wasm_syntax.specs.declared.sorts.Sort.{Sort}
 use Rattle.wasm_syntax.specs.declared.sorts.Sort.TheVariants as sort
 use Rattle.wasm_syntax.specs.Sorts.{sort_of}
 use Rattle.wasm_store.specs.Store.{Store}
 use Rattle.wasm_machine.specs.Terms.{FrameState, Kind, label, frame, Level, Term, here, invoke, trap, throw, inside, with_form}
-use Rattle.wasm_machine.specs.Charges.{charge_by, charge_in, charge_of, extra_of}
+use Rattle.wasm_machine.specs.Charges.{charge_by, charge_in, charge_of}
 use Rattle.wasm_machine.specs.Reduction.{Act, goes, branches, returns, cannot, act, Does, asks, rewrites, gives, breaks, leaves, calls, traps, throws, stuck, under, renewed, gives_some, breaks_from, leaves_from, ends_from, acted, ended, next_in, in_level, reduce, topmost}
 use Rattle.wasm_calls.specs.Calls.{weight}
 use Rattle.wasm_calls.specs.Answers.{HasSameCode}

@@ -1,15 +1,12 @@
 -- Private: words of the contracts of frames at work: the innermost one over those that wait for it.
 use Rattle.std.specs.Prelude.{◌≡◌, ℕ, ◌<◌, ◌≤◌, List, [], ◌∷◌, ◌++◌, Option, Some, None, length, reverse}
-use Rattle.std.specs.List.{AllZip}
 use Rattle.wasm_syntax.specs.declared.types.ValType.{ValType}
 use Rattle.wasm_syntax.specs.declared.value.Value.{Value}
 use Rattle.wasm_syntax.specs.declared.addresses.FuncAddr.{FuncAddr}
-use Rattle.wasm_store.specs.Store.{Store, type_of, function_at}
-use Rattle.wasm_store.specs.Whole.{HasType}
-use Rattle.wasm_machine.specs.Terms.{Term, here, invoke}
+use Rattle.wasm_store.specs.Store.{Store}
+use Rattle.wasm_machine.specs.Terms.{Term, invoke}
 use Rattle.wasm_machine.specs.View.{View, values_of, with_values, module_for, term_round, term_of}
 use Rattle.wasm_machine.specs.Fits.{Fits, Waits}
-use Rattle.wasm_machine.specs.Entering.{CanEnter}
 use Rattle.wasm_machine.specs.Steps.{LeavesFit}
 use Rattle.wasm_machine.specs.declared.frame.Effect.{Effect}
 use Rattle.wasm_machine.specs.declared.frame.Effect.TheVariants.{Went, Call, Returned, Trapped, Grew}
@@ -57,10 +54,10 @@ pub record Leads (c d : Configuration) : Type 0 where
   pub same : end_of c ≡ end_of d
   pub less : most_rewritings d < most_rewritings c
 
--- it comes to these frames, or to this end
-abbrev pub Comes : (Configuration → Configuration → Type 0) → Configuration → Option Ending → Store → Activations → Type 0
-Comes R c None s a = R c (configuration_of s a)
-Comes R c (Some ending) s a = R c (ended s (outcome_of ending) a.left)
+-- these frames at work, or this end
+abbrev pub place_of : Option Ending → Store → Activations → Configuration
+place_of None s a = configuration_of s a
+place_of (Some ending) s a = ended s (outcome_of ending) a.left
 
 -- frames that wait, the innermost first: it waits for results of these types, and the outermost one gives values of the types R
 abbrev pub AreWaiting : Store → List ValType → List View → List ValType → Type 0

@@ -1,6 +1,6 @@
 -- The run of a call to its end (WebAssembly Core 2.0, sections 4.2.13, 4.4.10 and 4.5.5), with a budget: a configuration is a store, a
 -- term and what is left of the budget, and it goes on by the one rewriting that its term has.
-use Rattle.std.specs.Prelude.{ℕ, zero, suc, ◌+◌, ◌*◌, ◌-◌, nat_le, nat_lt, if◌then◌else◌, List, [], ◌∷◌, reverse, Option, Some, None}
+use Rattle.std.specs.Prelude.{ℕ, zero, suc, ◌+◌, ◌*◌, ◌-◌, nat_le, nat_lt, if◌then◌else◌, List, [], reverse, Option, Some, None}
 use Rattle.wasm_syntax.specs.declared.value.Value.{Value}
 use Rattle.wasm_syntax.specs.declared.trap.Trap.{Trap}
 use Rattle.wasm_syntax.specs.declared.addresses.FuncAddr.{FuncAddr}

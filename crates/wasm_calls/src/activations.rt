@@ -1,13 +1,15 @@
 //! The frames of a run.
 
-ghost use Rattle.std.specs.Prelude.{◌≡◌, List, IfOk, reverse};
+ghost use Rattle.std.specs.Prelude.{◌≡◌, ◌≤◌, List, IfOk, reverse};
 ghost use Rattle.wasm_syntax.specs.declared.types.ValType.{ValType};
 ghost use Rattle.wasm_store.specs.Store.{type_of, function_at};
 ghost use Rattle.wasm_store.specs.Whole.{IsLater};
+ghost use Rattle.wasm_machine.specs.View.{term_of};
+ghost use Rattle.wasm_machine.specs.Charges.{charge_of};
 ghost use Rattle.wasm_machine.specs.Entering.{CanEnter};
 ghost use Rattle.wasm_calls.specs.Calls.{call_of, ended, end_of};
 ghost use Rattle.wasm_calls.specs.Answers.{outcome_of, EndsTyped, AllHaveCode, HasSameCode};
-ghost use Rattle.wasm_calls.specs.Activations.{Reaches, Leads, Comes, configuration_of, calling, given, outer_of, pending, Works, IsPending, Lasts};
+ghost use Rattle.wasm_calls.specs.Activations.{Reaches, Leads, place_of, configuration_of, calling, given, outer_of, pending, Works, IsPending, Lasts};
 
 use crate::ending::{Ending, Invoked};
 use std::alloc::{AllocError, Global};
@@ -37,16 +39,16 @@ impl Activations {
         alloc: Global,
         store: &Store,
         func: FuncAddr,
-        args: &[Value],
+        args: Vec<Value>,
     ) -> Result<Option<Ending>, AllocError>
-        requires { (R : List ValType) × (e : Vec Value Global) × (e.items ≡ args.now) × IsPending store.now R (Effect.Call func e) self.old }
-        ensures comes { IfOk result (λ o. Comes Reaches (calling store.now func args.now self.old) o store.now self.new) }
-        ensures lasts { IfOk result (λ o. (R : List ValType) (e : Vec Value Global) → e.items ≡ args.now → IsPending store.now R (Effect.Call func e) self.old → Lasts R o store.now self.new) }
+        requires { (R : List ValType) × IsPending store.now R (Effect.Call func args) self.old }
+        ensures comes { IfOk result (λ o. Reaches (calling store.now func args.items self.old) (place_of o store.now self.new)) }
+        ensures lasts { IfOk result (λ o. (R : List ValType) → IsPending store.now R (Effect.Call func args) self.old → Lasts R o store.now self.new) }
     {
         if self.outer.len() + 1 >= MOST_FRAMES {
             return Ok(Some(Ending::Exhausted));
         }
-        let frame = WasmFrame::enter(alloc, store, func, args)?;
+        let frame = WasmFrame::enter(alloc, store, func, args.as_slice())?;
         let waiting = mem::replace(&mut self.top, frame);
         self.outer.push(waiting)?;
         Ok(None)
@@ -56,7 +58,7 @@ impl Activations {
     #[inline]
     fn give_back(&mut self, store: &Store, values: Vec<Value>) -> Option<Ending>
         requires { (R : List ValType) × IsPending store.now R (Effect.Returned values) self.old }
-        ensures comes { Comes Reaches (given store.now (outer_of self.old) (reverse values.items) self.old.left) result store.now self.new }
+        ensures comes { Reaches (given store.now (outer_of self.old) (reverse values.items) self.old.left) (place_of result store.now self.new) }
         ensures lasts { (R : List ValType) → IsPending store.now R (Effect.Returned values) self.old → Lasts R result store.now self.new }
     {
         let _ = store;
@@ -79,14 +81,14 @@ impl Activations {
         effect: Effect,
     ) -> Result<Option<Ending>, AllocError>
         requires { (R : List ValType) × IsPending store.now R effect self.old }
-        ensures comes { IfOk result (λ o. Comes Reaches (pending store.now effect self.old) o store.now self.new) }
+        ensures comes { IfOk result (λ o. Reaches (pending store.now effect self.old) (place_of o store.now self.new)) }
         ensures lasts { IfOk result (λ o. (R : List ValType) → IsPending store.now R effect self.old → Lasts R o store.now self.new) }
     {
         match effect {
             Effect::Went => Ok(None),
             Effect::Grew { .. } => Ok(None),
             Effect::Call { func, args } => {
-                let ending = self.call(alloc, store, func, args.as_slice())?;
+                let ending = self.call(alloc, store, func, args)?;
                 Ok(ending)
             }
             Effect::Returned(values) => Ok(self.give_back(store, values)),
@@ -116,7 +118,7 @@ impl Activations {
     #[inline]
     fn turn(&mut self, alloc: Global, store: &mut Store) -> Result<Option<Ending>, AllocError>
         requires { (R : List ValType) × Works store.old R self.old }
-        ensures comes { IfOk result (λ o. Comes Leads (configuration_of store.old self.old) o store.new self.new) }
+        ensures comes { IfOk result (λ o. Leads (configuration_of store.old self.old) (place_of o store.new self.new)) }
         ensures lasts { IfOk result (λ o. (R : List ValType) → Works store.old R self.old → Lasts R o store.new self.new) }
         ensures later { IsLater store.old store.new }
         ensures code { HasSameCode store.old store.new }
