@@ -43,7 +43,7 @@ use Rattle.wasm_store.specs.Store.{Store, module_at, table_at, global_at, elemen
 use Rattle.wasm_store.specs.Allocated.{null_of}
 use Rattle.wasm_store.specs.Whole.{value_type, IsLive, AreLive, HasType, HasLists, HasFunction, HasTable, HasMemory, HasGlobal, HasElement, HasData, IsWhole}
 use Rattle.wasm_machine.specs.Performing.{Performed, performs, traps, lacks, perform, take_value, take_i32, take_number, find, check, number_value, at_type, result, minus_one, read_entry, grow_by, grow_memory_by, extended, in_range, place, bytes_of, write_bytes, write_entries, number_of}
-use Rattle.wasm_machine.specs.Memories.{memory_at, data_at}
+use Rattle.wasm_store.specs.Memories.{memory_at, data_at}
 use Rattle.raw_memory.specs.Bytes.{number, low_bytes, run as bytes_from}
 use Rattle.wasm_syntax.specs.declared.trap.Trap.TheVariants as trap
 

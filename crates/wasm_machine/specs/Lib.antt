@@ -1,4 +1,3 @@
-pub mod Memories
 pub mod Performing
 pub mod Terms
 pub mod Reduction

@@ -28,7 +28,7 @@ use Rattle.raw_memory.specs.Bytes.{number, low_bytes, run as bytes_from, replace
 use Rattle.wasm_store.specs.declared.instances.Instance.{Instance}
 use Rattle.wasm_store.specs.Store.{Store, TableInst, table_at, global_at, element_at, with_table, with_global, with_element, with_entries, grown, run, replaced, most_entries}
 use Rattle.wasm_store.specs.Allocated.{null_of}
-use Rattle.wasm_machine.specs.Memories.{memory_at, data_at, with_memory, with_data, with_bytes, pages_of, may_grow_memory, grown_memory}
+use Rattle.wasm_store.specs.Memories.{memory_at, data_at, with_memory, with_data, with_bytes, pages_of, may_grow_memory, grown_memory}
 
 -- What an instruction comes to.
 pub data Performed : Type 0 where

@@ -1,4 +1,5 @@
 pub mod Store
+pub mod Memories
 pub mod Growth
 pub mod Whole
 pub mod View

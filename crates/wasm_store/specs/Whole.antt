@@ -107,6 +107,12 @@ IsFunction s (f.Wasm ty i x) = (i.0 < length s.instances) × (own_type (module_a
 IsFunction s (f.Host ty callee) = Unit {0}
 IsFunction s (f.Suspending ty callee) = Unit {0}
 
+-- a function of a module whose instance has its lists
+abbrev pub HasCode : Store → FuncInst → Type 0
+HasCode s (f.Wasm ty i x) = IsBlank (instance_at s i) → ⊥
+HasCode s (f.Host ty callee) = ⊥
+HasCode s (f.Suspending ty callee) = ⊥
+
 abbrev pub IsInstance : Store → Instance → Type 0
 IsInstance s i = (i.module.0 < length s.modules) × (IsBlank i ⊎ HasLists s i)
 

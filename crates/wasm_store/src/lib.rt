@@ -9,3 +9,4 @@ mod table;
 
 pub use instances::{FuncInst, GlobalInst, Instance};
 pub use store::{OutOfTable, Store};
+pub use table::MOST_ENTRIES;

@@ -320,6 +320,14 @@ impl Store {
         }
     }
 
+    /// The items of an element segment, lent.
+    pub fn element(&self, e: ElemAddr) -> &[Value]
+        requires { e.0 < length self.now.elements }
+        ensures { result.now ≡ element_at self.now e }
+    {
+        self.elements[e.0 as usize].as_slice()
+    }
+
     /// Empties an element segment. It takes no memory.
     pub fn elem_drop(&mut self, e: ElemAddr)
         requires { e.0 < length self.old.elements }

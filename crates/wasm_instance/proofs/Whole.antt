@@ -1,0 +1,177 @@
+-- A module's things are added kind by kind, and then it is allocated.
+use Rattle.std.proofs.Common.{◌≡◌, ℕ, ◌+◌, ◌<◌, ◌≤◌, List, [], ◌∷◌, ◌++◌, length, refl, sym, ap, ◌∙◌, subst, append_nil, arith, length-append}
+use Rattle.std.specs.Prelude.{true, Some, slice_get, slice_index_or, slice_set, map, nat_le}
+use Rattle.std.specs.List.{All, AllZip, list_all}
+use Rattle.std.proofs.Math.Seq.{set-append_seam}
+use Rattle.std.proofs.lemmas.List.{get_or_push, get_or-append-add, length_push}
+use Rattle.std.proofs.lemmas.List.Elements.{All-weaker, All-nil, All-cons}
+use Rattle.std.proofs.lemmas.Bool.{leb-true}
+use Rattle.wasm_syntax.specs.declared.types.TableType.{TableType}
+use Rattle.wasm_syntax.specs.declared.types.Limit.{Limit}
+use Rattle.wasm_syntax.specs.declared.module.Data.{Data}
+use Rattle.wasm_syntax.specs.declared.module.Module.{Module}
+use Rattle.wasm_syntax.specs.declared.instructions.BlockId.{BlockId}
+use Rattle.wasm_syntax.specs.declared.value.Value.{Value}
+use Rattle.wasm_syntax.specs.declared.value.Value.TheVariants as w
+use Rattle.wasm_syntax.specs.declared.addresses.ModuleAddr.{ModuleAddr}
+use Rattle.wasm_syntax.specs.declared.addresses.InstAddr.{InstAddr}
+use Rattle.wasm_syntax.specs.declared.addresses.FuncAddr.{FuncAddr}
+use Rattle.wasm_syntax.specs.declared.addresses.TableAddr.{TableAddr}
+use Rattle.wasm_syntax.specs.declared.addresses.MemAddr.{MemAddr}
+use Rattle.wasm_syntax.specs.declared.addresses.GlobalAddr.{GlobalAddr}
+use Rattle.wasm_syntax.specs.declared.addresses.ElemAddr.{ElemAddr}
+use Rattle.wasm_syntax.specs.declared.addresses.DataAddr.{DataAddr}
+use Rattle.wasm_valid.specs.ModuleRules.{is_typed_module}
+use Rattle.wasm_store.specs.declared.instances.Instance.{Instance}
+use Rattle.wasm_store.specs.declared.instances.GlobalInst.{GlobalInst}
+use Rattle.wasm_store.specs.Store.{Store, MemInst, module_at, instance_at, global_at, blank, most_entries, with_new_instance, with_instance}
+use Rattle.wasm_store.specs.Whole.{IsWhole, IsLive, AreLive, IsGlobal, IsBlank, HasLists}
+use Rattle.wasm_store.specs.Allocated.{fresh, func_addr, table_addr, mem_addr, global_addr, elem_addr, data_addr, instance_of, value_of, functions_of, tables_from, memories_from, globals_from, elements_from, allocated, AreImports, IsAllocated, ModulesAreAllocated}
+use Rattle.wasm_instance.specs.Instantiation.{is_within_limits}
+use Rattle.wasm_instance.specs.Parts.{with_functions, with_tables, with_memories, with_globals, with_elements, with_datas, constant_in}
+use Rattle.wasm_instance.proofs.Rules.{left_true, right_true}
+
+-- What is behind a list.
+
+pub all_behind : {A : Type 0} (P : A → Type 0) (xs ys : List A) → All P (xs ++ ys) → All P ys
+all_behind {A} P xs ys h k d within =
+    subst P (get_or-append-add xs ys k d) (h (length xs + k) d (let count : length (xs ++ ys) ≡ length xs + length ys = length-append xs ys in omega (arith, count, within)))
+
+live_more : (s t : Store) → length s.functions ≤ length t.functions → (v : Value) → IsLive s v → IsLive t v
+live_more s t l (w.I32 n) h = h
+live_more s t l (w.I64 n) h = h
+live_more s t l w.FuncNull h = h
+live_more s t l (w.Func a) h = omega (arith, l, h)
+live_more s t l w.ExternNull h = h
+live_more s t l (w.Extern a) h = h
+
+pub globals_fit_more : (s t : Store) (gs : List GlobalInst) → length s.functions ≤ length t.functions → All (IsGlobal s) gs → All (IsGlobal t) gs
+globals_fit_more s t gs l h = All-weaker (IsGlobal s) (IsGlobal t) (λ g k. (k.0, live_more s t l g.value k.1)) gs h
+
+pub items_live_more : (s t : Store) (items : List Value) → length s.functions ≤ length t.functions → AreLive s items → AreLive t items
+items_live_more s t items l h = All-weaker (IsLive s) (IsLive t) (live_more s t l) items h
+
+pub elements_fit_more : (s t : Store) (es : List (List Value)) → length s.functions ≤ length t.functions → All (AreLive s) es → All (AreLive t) es
+elements_fit_more s t es l h = All-weaker (AreLive s) (AreLive t) (λ items k. items_live_more s t items l k) es h
+
+-- Within the limits.
+
+few_tables : (tys : List TableType) → list_all (λ (ty : TableType). nat_le ty.limit.min most_entries) tys ≡ true → All (λ (ty : TableType). ty.limit.min ≤ most_entries) tys
+few_tables [] h = All-nil (λ (ty : TableType). ty.limit.min ≤ most_entries)
+few_tables (ty ∷ tys) h =
+    All-cons (λ (ty : TableType). ty.limit.min ≤ most_entries) ty tys (leb-true ty.limit.min most_entries (left_true _ _ h)) (few_tables tys (right_true _ _ h))
+
+pub allocates : ModulesAreAllocated → (s : Store) (a : ModuleAddr) (imports : Instance) → IsWhole s → a.0 < length s.modules → is_typed_module (module_at s a) ≡ true → is_within_limits (module_at s a) ≡ true → AreImports s (module_at s a) imports → IsAllocated s a imports
+allocates law s a imports whole live typed limits given = law s a imports whole live typed (few_tables (module_at s a).tables limits) given
+
+-- The stores on the way.
+
+module _ (s : Store) (a : ModuleAddr) (imports : Instance) where
+  abbrev m : Module
+  m = module_at s a
+
+  abbrev inst : Instance
+  inst = instance_of a imports s
+
+  abbrev next : InstAddr
+  next = record { 0 = length s.instances }
+
+  abbrev value : BlockId → Value
+  value = value_of a imports s
+
+  abbrev values_of : List Value
+  values_of = map (λ (g : GlobalAddr). (global_at s g).value) imports.globals
+
+  abbrev pub with_blank : Store
+  with_blank = with_new_instance (blank a) s
+
+  abbrev pub with_own_functions : Store
+  with_own_functions = with_functions (functions_of m next 0 m.funcs) with_blank
+
+  abbrev pub with_own_tables : Store
+  with_own_tables = with_tables (tables_from m.tables) with_own_functions
+
+  abbrev pub with_own_globals : Store
+  with_own_globals = with_globals (globals_from value m.globals) with_own_tables
+
+  abbrev pub with_own_elements : Store
+  with_own_elements = with_elements (elements_from value m.elems) with_own_globals
+
+  abbrev pub with_all : Store
+  with_all = with_datas (map (λ (segment : Data). segment.bytes) m.datas) (with_memories (memories_from m.mems) with_own_elements)
+
+  -- each step leads to the next store
+  pub functions_there : (t u : Store) (i : InstAddr) → i.0 ≡ length s.instances → t ≡ with_blank → u ≡ with_functions (functions_of (module_at t a) i 0 (module_at t a).funcs) t → u ≡ with_own_functions
+  functions_there t u i first e made =
+      made ∙ ap (λ (x : Store). with_functions (functions_of (module_at x a) i 0 (module_at x a).funcs) x) e
+      ∙ ap (λ (n : ℕ). with_functions (functions_of m (record { 0 = n }) 0 m.funcs) with_blank) first
+
+  pub tables_there : (t u : Store) → t ≡ with_own_functions → u ≡ with_tables (tables_from (module_at t a).tables) t → u ≡ with_own_tables
+  tables_there t u e made = made ∙ ap (λ (x : Store). with_tables (tables_from (module_at x a).tables) x) e
+
+  pub globals_there : (t u : Store) (funcs : List FuncAddr) (values : List Value) → funcs ≡ inst.funcs → values ≡ values_of → t ≡ with_own_tables → u ≡ with_globals (globals_from (constant_in (module_at t a) funcs values) (module_at t a).globals) t → u ≡ with_own_globals
+  globals_there t u funcs values fs vs e made =
+      made ∙ ap (λ (x : Store). with_globals (globals_from (constant_in (module_at x a) funcs values) (module_at x a).globals) x) e
+      ∙ ap (λ (gs : List FuncAddr). with_globals (globals_from (constant_in m gs values) m.globals) with_own_tables) fs
+      ∙ ap (λ (us : List Value). with_globals (globals_from (constant_in m inst.funcs us) m.globals) with_own_tables) vs
+
+  pub elements_there : (t u : Store) (funcs : List FuncAddr) (values : List Value) → funcs ≡ inst.funcs → values ≡ values_of → t ≡ with_own_globals → u ≡ with_elements (elements_from (constant_in (module_at t a) funcs values) (module_at t a).elems) t → u ≡ with_own_elements
+  elements_there t u funcs values fs vs e made =
+      made ∙ ap (λ (x : Store). with_elements (elements_from (constant_in (module_at x a) funcs values) (module_at x a).elems) x) e
+      ∙ ap (λ (gs : List FuncAddr). with_elements (elements_from (constant_in m gs values) m.elems) with_own_globals) fs
+      ∙ ap (λ (us : List Value). with_elements (elements_from (constant_in m inst.funcs us) m.elems) with_own_globals) vs
+
+  -- what the steps ask
+  pub globals_ready : IsAllocated s a imports → (t : Store) (funcs : List FuncAddr) (values : List Value) → funcs ≡ inst.funcs → values ≡ values_of → t ≡ with_own_tables → All (IsGlobal t) (globals_from (constant_in (module_at t a) funcs values) (module_at t a).globals)
+  globals_ready made t funcs values fs vs e =
+      let there : All (IsGlobal with_own_tables) (globals_from value m.globals) =
+      globals_fit_more (allocated a imports s) with_own_tables (globals_from value m.globals) (omega arith)
+      (all_behind (IsGlobal (allocated a imports s)) s.globals (globals_from value m.globals) made.whole.globals) in
+      subst (λ (x : Store). All (IsGlobal x) (globals_from (constant_in (module_at x a) funcs values) (module_at x a).globals)) (sym e)
+      (subst (λ (gs : List FuncAddr). All (IsGlobal with_own_tables) (globals_from (constant_in m gs values) m.globals)) (sym fs)
+      (subst (λ (us : List Value). All (IsGlobal with_own_tables) (globals_from (constant_in m inst.funcs us) m.globals)) (sym vs) there))
+
+  pub elements_ready : IsAllocated s a imports → (t : Store) (funcs : List FuncAddr) (values : List Value) → funcs ≡ inst.funcs → values ≡ values_of → t ≡ with_own_globals → All (AreLive t) (elements_from (constant_in (module_at t a) funcs values) (module_at t a).elems)
+  elements_ready made t funcs values fs vs e =
+      let there : All (AreLive with_own_globals) (elements_from value m.elems) =
+      elements_fit_more (allocated a imports s) with_own_globals (elements_from value m.elems) (omega arith)
+      (all_behind (AreLive (allocated a imports s)) s.elements (elements_from value m.elems) made.whole.elements) in
+      subst (λ (x : Store). All (AreLive x) (elements_from (constant_in (module_at x a) funcs values) (module_at x a).elems)) (sym e)
+      (subst (λ (gs : List FuncAddr). All (AreLive with_own_globals) (elements_from (constant_in m gs values) m.elems)) (sym fs)
+      (subst (λ (us : List Value). All (AreLive with_own_globals) (elements_from (constant_in m inst.funcs us) m.elems)) (sym vs) there))
+
+  -- without memories and data segments that is all
+  pub all_there : m.mems ≡ [] → m.datas ≡ [] → (t : Store) → t ≡ with_own_elements → t ≡ with_all
+  all_there no_mems no_datas t e =
+      e ∙ ap (λ (ms : List MemInst). record with_own_elements { memories = ms }) (sym (append_nil s.memories))
+      ∙ ap (λ (ls : List Limit). with_memories (memories_from ls) with_own_elements) (sym no_mems)
+      ∙ ap (λ (ds : List (List ℕ)). record (with_memories (memories_from m.mems) with_own_elements) { datas = ds }) (sym (append_nil s.datas))
+      ∙ ap (λ (ds : List Data). with_datas (map (λ (segment : Data). segment.bytes) ds) (with_memories (memories_from m.mems) with_own_elements)) (sym no_datas)
+
+  pub lists_there : IsAllocated s a imports → (t : Store) (i : Instance) → t ≡ with_all → i ≡ inst → HasLists t i
+  lists_there made t i e same =
+      let there : HasLists with_all inst = record {
+        live = made.lists.live;
+        funcs = made.lists.funcs;
+        tables = made.lists.tables;
+        mems = made.lists.mems;
+        globals = made.lists.globals;
+        elems = made.lists.elems;
+        datas = made.lists.datas;
+      } in
+      subst (λ (x : Store). HasLists x i) (sym e) (subst (λ (j : Instance). HasLists with_all j) (sym same) there)
+
+  there_blank : (i : InstAddr) → i.0 ≡ length s.instances → instance_at with_all i ≡ blank a
+  there_blank i first = get_or_push s.instances (blank a) (blank (record { 0 = 0 })) i.0 first
+
+  pub blank_there : (t : Store) (i : InstAddr) → i.0 ≡ length s.instances → t ≡ with_all → instance_at t i ≡ blank a
+  blank_there t i first e = ap (λ (x : Store). instance_at x i) e ∙ there_blank i first
+
+  pub allocated_there : (t u : Store) (i : InstAddr) (lists : Instance) → i.0 ≡ length s.instances → lists ≡ inst → t ≡ with_all → u ≡ with_instance i lists t → u ≡ allocated a imports s
+  allocated_there t u i lists first same e made =
+      made ∙ ap (λ (x : Store). with_instance i lists x) e ∙ ap (λ (j : Instance). with_instance i j with_all) same
+      ∙ ap (λ (is : List Instance). record with_all { instances = is })
+          (ap (λ (n : ℕ). slice_set (s.instances ++ blank a ∷ []) n inst) first ∙ set-append_seam s.instances (blank a) [] inst)
+
+pub blank_is_blank : (i : Instance) (a : ModuleAddr) → i ≡ blank a → IsBlank i
+blank_is_blank i a e = subst IsBlank (sym e) (record { funcs = refl; tables = refl; mems = refl; globals = refl; elems = refl; datas = refl })

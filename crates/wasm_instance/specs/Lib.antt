@@ -1,0 +1,3 @@
+pub mod Instantiation
+pub mod Laws
+pub mod Parts
