@@ -1,10 +1,10 @@
 -- One thing more of a kind, and all that there are.
-use Rattle.std.proofs.Common.{◌≡◌, ℕ, ◌+◌, ◌<◌, ◌≤◌, List, [], ◌∷◌, ◌++◌, length, take, refl, sym, ap, ◌∙◌, subst, append_assoc, append_nil, add-one, arith, length-append}
-use Rattle.std.specs.Prelude.{Option, Some, None, slice_get, slice_index_or, zero, suc, map, filter_map, option_map}
+use Rattle.std.proofs.Common.{◌≡◌, ℕ, ◌+◌, ◌<◌, ◌≤◌, List, [], ◌∷◌, ◌++◌, length, take, refl, sym, ap, ◌∙◌, subst, append_assoc, append-nil, arith, length-append}
+use Rattle.std.specs.Prelude.{Some, None, slice_get, zero, suc, option_map}
 use Rattle.std.specs.List.{All}
 use Rattle.std.proofs.Math.Seq.{take-length}
-use Rattle.std.proofs.lemmas.List.{take_more, length-take-le, length-map}
-use Rattle.std.proofs.lemmas.Option.{slice_get_within, get_or_from_slice_get, slice_get-get_or, slice_get-map}
+use Rattle.std.proofs.lemmas.List.{take_more, length-take-le}
+use Rattle.std.proofs.lemmas.Option.{slice_get_within, get_or_from_slice_get, slice_get-map}
 use Rattle.wasm_syntax.specs.declared.module.Func.{Func}
 use Rattle.wasm_syntax.specs.declared.module.GlobalDef.{GlobalDef}
 use Rattle.wasm_syntax.specs.declared.module.Elem.{Elem}
@@ -45,7 +45,7 @@ joined_all : {A : Type 0} (xs ys : List A) (k : ℕ) → length ys ≤ k → k �
 joined_all {A} xs ys k h l = ap (λ (zs : List A). xs ++ zs) (ap (λ (j : ℕ). take j ys) (let e : k ≡ length ys = omega arith in e) ∙ take-length ys)
 
 pub none_taken : {A : Type 0} (xs ys : List A) → xs ≡ xs ++ take 0 ys
-none_taken xs ys = sym (append_nil xs)
+none_taken xs ys = sym (append-nil xs)
 
 -- One thing more in a store.
 
@@ -98,6 +98,13 @@ function_at_place m j x (h ∷ gs) zero g e =
     ap (λ (o : Func). Some (f.Wasm (type_with m o.ty) j x)) same ∙ ap (λ (n : ℕ). Some (f.Wasm (type_with m g.ty) j n)) (let e' : x ≡ x + 0 = omega arith in e')
 function_at_place m j x (h ∷ gs) (suc k) g e =
     function_at_place m j (suc x) gs k g e ∙ ap (λ (n : ℕ). Some (f.Wasm (type_with m g.ty) j n)) (let e' : suc x + k ≡ x + suc k = omega arith in e')
+
+-- a function that is made of its type
+pub function_made : (m : Module) (j : InstAddr) (k : ℕ) (g : Func) (found ty : FuncType) → slice_get m.funcs k ≡ Some g → slice_get m.types g.ty ≡ Some found → ty ≡ found → slice_get (functions_of m j 0 m.funcs) k ≡ Some (f.Wasm ty j k)
+function_made m j k g found ty e there same =
+    function_at_place m j 0 m.funcs k g e
+    ∙ ap (λ (u : FuncType). Some (f.Wasm u j (0 + k))) (get_or_from_slice_get m.types g.ty found (record { params = []; results = [] }) there ∙ sym same)
+    ∙ ap (λ (n : ℕ). Some (f.Wasm ty j n)) (let e' : 0 + k ≡ k = omega arith in e')
 
 pub length_functions : (m : Module) (j : InstAddr) (x : ℕ) (gs : List Func) → length (functions_of m j x gs) ≡ length gs
 length_functions m j x [] = refl

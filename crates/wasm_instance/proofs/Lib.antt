@@ -1,5 +1,6 @@
 pub mod Rules
 pub mod Adding
 pub mod Whole
-pub mod Segments
-pub mod Code
+pub mod Writing
+pub mod Callable
+pub mod Finished

@@ -1,9 +1,9 @@
 -- A module's things are added kind by kind, and then it is allocated.
-use Rattle.std.proofs.Common.{◌≡◌, ℕ, ◌+◌, ◌<◌, ◌≤◌, List, [], ◌∷◌, ◌++◌, length, refl, sym, ap, ◌∙◌, subst, append_nil, arith, length-append}
-use Rattle.std.specs.Prelude.{true, Some, slice_get, slice_index_or, slice_set, map, nat_le}
-use Rattle.std.specs.List.{All, AllZip, list_all}
+use Rattle.std.proofs.Common.{◌≡◌, ℕ, ◌+◌, ◌<◌, ◌≤◌, List, [], ◌∷◌, ◌++◌, length, refl, sym, ap, ◌∙◌, subst, append-nil, arith, length-append}
+use Rattle.std.specs.Prelude.{true, slice_set, map, nat_le}
+use Rattle.std.specs.List.{All, list_all}
 use Rattle.std.proofs.Math.Seq.{set-append_seam}
-use Rattle.std.proofs.lemmas.List.{get_or_push, get_or-append-add, length_push}
+use Rattle.std.proofs.lemmas.List.{get_or_push, get_or-append-add}
 use Rattle.std.proofs.lemmas.List.Elements.{All-weaker, All-nil, All-cons}
 use Rattle.std.proofs.lemmas.Bool.{leb-true}
 use Rattle.wasm_syntax.specs.declared.types.TableType.{TableType}
@@ -140,12 +140,48 @@ module _ (s : Store) (a : ModuleAddr) (imports : Instance) where
       (subst (λ (gs : List FuncAddr). All (AreLive with_own_globals) (elements_from (constant_in m gs values) m.elems)) (sym fs)
       (subst (λ (us : List Value). All (AreLive with_own_globals) (elements_from (constant_in m inst.funcs us) m.elems)) (sym vs) there))
 
+  -- the lists of the instance
+  pub funcs_there : (t : Store) (given funcs : List FuncAddr) → given ≡ imports.funcs → t ≡ with_blank → funcs ≡ given ++ fresh func_addr (length t.functions) (length (module_at t a).funcs) → funcs ≡ inst.funcs
+  funcs_there t given funcs g e made =
+      made ∙ ap (λ (us : List FuncAddr). us ++ fresh func_addr (length t.functions) (length (module_at t a).funcs)) g
+      ∙ ap (λ (x : Store). imports.funcs ++ fresh func_addr (length x.functions) (length (module_at x a).funcs)) e
+
+  pub tables_listed : (t : Store) (given tables : List TableAddr) → given ≡ imports.tables → t ≡ with_own_functions → tables ≡ given ++ fresh table_addr (length t.tables) (length (module_at t a).tables) → tables ≡ inst.tables
+  tables_listed t given tables g e made =
+      made ∙ ap (λ (us : List TableAddr). us ++ fresh table_addr (length t.tables) (length (module_at t a).tables)) g
+      ∙ ap (λ (x : Store). imports.tables ++ fresh table_addr (length x.tables) (length (module_at x a).tables)) e
+
+  pub mems_listed : m.mems ≡ [] → (mems : List MemAddr) → mems ≡ imports.mems → mems ≡ inst.mems
+  mems_listed none_there mems g =
+      g ∙ sym (append-nil imports.mems) ∙ ap (λ (ls : List Limit). imports.mems ++ fresh mem_addr (length s.memories) (length ls)) (sym none_there)
+
+  pub globals_listed : (t : Store) (given globals : List GlobalAddr) → given ≡ imports.globals → t ≡ with_own_tables → globals ≡ given ++ fresh global_addr (length t.globals) (length (module_at t a).globals) → globals ≡ inst.globals
+  globals_listed t given globals g e made =
+      made ∙ ap (λ (us : List GlobalAddr). us ++ fresh global_addr (length t.globals) (length (module_at t a).globals)) g
+      ∙ ap (λ (x : Store). imports.globals ++ fresh global_addr (length x.globals) (length (module_at x a).globals)) e
+
+  pub elems_listed : (t : Store) (given elems : List ElemAddr) → given ≡ [] → t ≡ with_own_globals → elems ≡ given ++ fresh elem_addr (length t.elements) (length (module_at t a).elems) → elems ≡ inst.elems
+  elems_listed t given elems g e made =
+      made ∙ ap (λ (us : List ElemAddr). us ++ fresh elem_addr (length t.elements) (length (module_at t a).elems)) g
+      ∙ ap (λ (x : Store). fresh elem_addr (length x.elements) (length (module_at x a).elems)) e
+
+  pub datas_listed : m.datas ≡ [] → (datas : List DataAddr) → datas ≡ [] → datas ≡ inst.datas
+  datas_listed none_there datas g = g ∙ ap (λ (ds : List Data). fresh data_addr (length s.datas) (length ds)) (sym none_there)
+
+  pub listed_there : (funcs : List FuncAddr) (tables : List TableAddr) (mems : List MemAddr) (globals : List GlobalAddr) (elems : List ElemAddr) (datas : List DataAddr) → funcs ≡ inst.funcs → tables ≡ inst.tables → mems ≡ inst.mems → globals ≡ inst.globals → elems ≡ inst.elems → datas ≡ inst.datas → ◌≡◌ {A = Instance} (record { «module» = a; funcs = funcs; tables = tables; mems = mems; globals = globals; elems = elems; datas = datas }) inst
+  listed_there funcs tables mems globals elems datas fs ts ms gs es ds =
+      ap (λ (us : List FuncAddr). record inst { funcs = us; tables = tables; mems = mems; globals = globals; elems = elems; datas = datas }) fs
+      ∙ ap (λ (us : List TableAddr). record inst { tables = us; mems = mems; globals = globals; elems = elems; datas = datas }) ts
+      ∙ ap (λ (us : List MemAddr). record inst { mems = us; globals = globals; elems = elems; datas = datas }) ms
+      ∙ ap (λ (us : List GlobalAddr). record inst { globals = us; elems = elems; datas = datas }) gs
+      ∙ ap (λ (us : List ElemAddr). record inst { elems = us; datas = datas }) es ∙ ap (λ (us : List DataAddr). record inst { datas = us }) ds
+
   -- without memories and data segments that is all
   pub all_there : m.mems ≡ [] → m.datas ≡ [] → (t : Store) → t ≡ with_own_elements → t ≡ with_all
   all_there no_mems no_datas t e =
-      e ∙ ap (λ (ms : List MemInst). record with_own_elements { memories = ms }) (sym (append_nil s.memories))
+      e ∙ ap (λ (ms : List MemInst). record with_own_elements { memories = ms }) (sym (append-nil s.memories))
       ∙ ap (λ (ls : List Limit). with_memories (memories_from ls) with_own_elements) (sym no_mems)
-      ∙ ap (λ (ds : List (List ℕ)). record (with_memories (memories_from m.mems) with_own_elements) { datas = ds }) (sym (append_nil s.datas))
+      ∙ ap (λ (ds : List (List ℕ)). record (with_memories (memories_from m.mems) with_own_elements) { datas = ds }) (sym (append-nil s.datas))
       ∙ ap (λ (ds : List Data). with_datas (map (λ (segment : Data). segment.bytes) ds) (with_memories (memories_from m.mems) with_own_elements)) (sym no_datas)
 
   pub lists_there : IsAllocated s a imports → (t : Store) (i : Instance) → t ≡ with_all → i ≡ inst → HasLists t i
@@ -162,7 +198,7 @@ module _ (s : Store) (a : ModuleAddr) (imports : Instance) where
       subst (λ (x : Store). HasLists x i) (sym e) (subst (λ (j : Instance). HasLists with_all j) (sym same) there)
 
   there_blank : (i : InstAddr) → i.0 ≡ length s.instances → instance_at with_all i ≡ blank a
-  there_blank i first = get_or_push s.instances (blank a) (blank (record { 0 = 0 })) i.0 first
+  there_blank i first = get_or_push s.instances (blank a) (blank (record { 0 = 0 })) i.0 (sym first)
 
   pub blank_there : (t : Store) (i : InstAddr) → i.0 ≡ length s.instances → t ≡ with_all → instance_at t i ≡ blank a
   blank_there t i first e = ap (λ (x : Store). instance_at x i) e ∙ there_blank i first
@@ -171,7 +207,7 @@ module _ (s : Store) (a : ModuleAddr) (imports : Instance) where
   allocated_there t u i lists first same e made =
       made ∙ ap (λ (x : Store). with_instance i lists x) e ∙ ap (λ (j : Instance). with_instance i j with_all) same
       ∙ ap (λ (is : List Instance). record with_all { instances = is })
-          (ap (λ (n : ℕ). slice_set (s.instances ++ blank a ∷ []) n inst) first ∙ set-append_seam s.instances (blank a) [] inst)
+      (ap (λ (n : ℕ). slice_set (s.instances ++ blank a ∷ []) n inst) first ∙ set-append_seam s.instances (blank a) [] inst)
 
 pub blank_is_blank : (i : Instance) (a : ModuleAddr) → i ≡ blank a → IsBlank i
 blank_is_blank i a e = subst IsBlank (sym e) (record { funcs = refl; tables = refl; mems = refl; globals = refl; elems = refl; datas = refl })

@@ -1,6 +1,6 @@
 -- Instantiation of a module (WebAssembly Core 2.0, section 4.5.4; JS Interface, section 5, "instantiate the core of a WebAssembly
 -- module"): what the store is once all is allocated and the active segments are written, before the start function is called.
-use Rattle.std.specs.Prelude.{◌≡◌, ℕ, ◌+◌, ◌<◌, Bool, true, false, ◌&&◌, nat_le, List, [], ◌∷◌, Option, Some, None, length, option_map, slice_index_or}
+use Rattle.std.specs.Prelude.{◌≡◌, ℕ, ◌+◌, Bool, true, false, nat_le, List, [], ◌∷◌, Option, length, option_map, slice_index_or}
 use Rattle.std.specs.List.{list_all}
 use Rattle.wasm_syntax.specs.declared.types.TableType.{TableType}
 use Rattle.wasm_syntax.specs.declared.instructions.BlockId.{BlockId}

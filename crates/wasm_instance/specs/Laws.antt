@@ -2,7 +2,6 @@
 use Rattle.std.specs.Prelude.{◌≡◌, ◌<◌, [], Option, Some, None, length}
 use Rattle.std.specs.List.{All}
 use Rattle.wasm_syntax.specs.declared.addresses.ModuleAddr.{ModuleAddr}
-use Rattle.wasm_syntax.specs.declared.addresses.InstAddr.{InstAddr}
 use Rattle.wasm_syntax.specs.declared.addresses.FuncAddr.{FuncAddr}
 use Rattle.wasm_store.specs.declared.instances.Instance.{Instance}
 use Rattle.wasm_store.specs.Store.{Store, instance_at, function_at, type_of}

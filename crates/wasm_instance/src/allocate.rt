@@ -16,8 +16,8 @@ use std::alloc::{AllocError, Global};
 use wasm_store::laws::{modules_are_allocated, order, types_stay};
 use wasm_store::{FuncInst, GlobalInst, Instance, MOST_ENTRIES, Store};
 use wasm_syntax::{
-    Elem, ElemAddr, Func, FuncAddr, FuncType, GlobalAddr, GlobalDef, InstAddr, Module, ModuleAddr, TableAddr,
-    TableType, Value,
+    Elem, ElemAddr, Func, FuncAddr, FuncType, GlobalAddr, GlobalDef, InstAddr, Module, ModuleAddr,
+    TableAddr, TableType, Value,
 };
 
 /// Whether no table of the module has more entries than the embedding allows.
@@ -254,6 +254,7 @@ pub(crate) fn allocate(
     values: &[Value],
 ) -> Result<InstAddr, AllocError>
     requires live { a.0 < length store.old.modules }
+    requires typed { is_typed_module (module_at store.old a) ≡ true }
     requires imports { AreImports store.old (module_at store.old a) imports.now }
     requires limits { is_within_limits (module_at store.old a) ≡ true }
     requires no_memories { (module_at store.old a).mems ≡ [] }

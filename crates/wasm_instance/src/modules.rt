@@ -11,6 +11,7 @@ use crate::allocate::{allocate, is_within_limits};
 use crate::constants::imported_values;
 use crate::segments::{start_of, write_segments};
 use std::alloc::{AllocError, Global};
+use wasm_store::laws::{indices, instances_stay, modules_are_allocated};
 use wasm_store::{Instance, Store};
 use wasm_syntax::{FuncAddr, InstAddr, ModuleAddr, Trap};
 
@@ -44,6 +45,9 @@ pub fn instantiate(
     ensures code { IfOk result (λ r. AllHaveCode store.old → AllHaveCode store.new) }
     ensures later { IsLater store.old store.new }
 {
+    modules_are_allocated();
+    instances_stay();
+    indices();
     store.whole();
     if !is_within_limits(store.module(a).module()) {
         return Ok(Instantiated::PastLimit);

@@ -1,8 +1,9 @@
 //! The segments of a new instance: active ones are written one after the other, and dropped.
 
-ghost use Rattle.std.specs.Prelude.{◌≡◌, ◌<◌, length, slice_get, Some};
+ghost use Rattle.std.specs.Prelude.{◌≡◌, ◌<◌, [], true, length, slice_get, Some};
 ghost use Rattle.wasm_syntax.specs.declared.addresses.ElemAddr.{ElemAddr};
 ghost use Rattle.wasm_syntax.specs.declared.module.Elem.{Elem};
+ghost use Rattle.wasm_valid.specs.ModuleRules.{is_typed_module};
 ghost use Rattle.wasm_store.specs.Store.{module_at, instance_at, table_at, element_at};
 ghost use Rattle.wasm_store.specs.Whole.{IsLater, HasLists, AreTyped};
 ghost use Rattle.wasm_instance.specs.Instantiation.{fits, table_of, write_element, init_element, init_elements, init_segments, start_of};
@@ -11,15 +12,14 @@ ghost use Rattle.wasm_instance.specs.Parts.{Ends, SameCode, module_of, offset_in
 use crate::constants::{number, value};
 use wasm_store::Store;
 use wasm_store::laws::{indices, instances_stay, order};
-use wasm_syntax::{
-    BlockId, ElemAddr, FuncAddr, InstAddr, Mode, TableAddr, Trap, Value,
-};
+use wasm_syntax::{BlockId, ElemAddr, FuncAddr, InstAddr, Mode, TableAddr, Trap, Value};
 
 /// What becomes of an element segment of the module of an instance.
 fn mode_at(store: &Store, i: InstAddr, k: usize) -> Mode
     requires live { i.0 < length store.now.instances }
     requires lists { HasLists store.now (instance_at store.now i) }
-    ensures { (segment : Elem) → slice_get (module_of store.now i).elems k ≡ Some segment → result ≡ segment.mode }
+    ensures mode { (segment : Elem) → slice_get (module_of store.now i).elems k ≡ Some segment → result ≡ segment.mode }
+    ensures typed { is_typed_module (module_of store.now i) ≡ true }
 {
     let a = store.instance(i).module;
     match store.module(a).module().elems.as_slice().get(k) {

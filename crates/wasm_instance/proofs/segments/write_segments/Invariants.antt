@@ -1,6 +1,6 @@
 use Rattle.wasm_store.specs.Store.{instance_at}
 use Rattle.wasm_instance.specs.Parts.{module_of, offset_in}
-use Rattle.wasm_instance.proofs.Segments.{IsLeft}
+use Rattle.wasm_instance.proofs.Writing.{IsLeft}
 use Rattle.wasm_instance.proofs.segments.write_segments.Given as goal
 
 abbrev pub invariant-loop-k : goal.invariant-loop-k

@@ -1,20 +1,16 @@
 -- Segments one after the other.
-use Rattle.std.proofs.Common.{◌≡◌, ℕ, ◌+◌, ◌<◌, ◌≤◌, List, [], ◌∷◌, ◌++◌, length, take, drop, refl, sym, ap, ◌∙◌, subst, arith}
-use Rattle.std.specs.Prelude.{true, false, Bool, Option, Some, None, Result, Ok, Err, slice_get, slice_index_or, zero, suc, nat_le}
-use Rattle.std.specs.List.{All, AllZip}
-use Rattle.std.proofs.Math.Seq.{take-length, drop-length}
+use Rattle.std.proofs.Common.{◌≡◌, ℕ, ◌+◌, ◌<◌, List, [], ◌∷◌, length, drop, refl, sym, ap, ◌∙◌, subst, arith}
+use Rattle.std.specs.Prelude.{true, Some, Result, slice_get, slice_index_or, zero, suc}
+use Rattle.std.specs.List.{AllZip}
+use Rattle.std.proofs.Math.Seq.{drop-length}
 use Rattle.std.proofs.lemmas.List.{at_drop_more}
-use Rattle.std.proofs.lemmas.Option.{slice_get_within, get_or_from_slice_get, slice_get-get_or}
-use Rattle.std.proofs.lemmas.Bool.{le-leb, lt-leb}
+use Rattle.std.proofs.lemmas.Option.{slice_get_within, get_or_from_slice_get}
 use Rattle.wasm_syntax.specs.declared.instructions.BlockId.{BlockId}
-use Rattle.wasm_syntax.specs.declared.module.Mode.{Mode}
 use Rattle.wasm_syntax.specs.declared.module.Mode.TheVariants as mode
 use Rattle.wasm_syntax.specs.declared.module.Elem.{Elem}
 use Rattle.wasm_syntax.specs.declared.module.Data.{Data}
 use Rattle.wasm_syntax.specs.declared.module.Module.{Module}
-use Rattle.wasm_syntax.specs.declared.types.TableType.{TableType}
 use Rattle.wasm_syntax.specs.declared.trap.Trap.{Trap}
-use Rattle.wasm_syntax.specs.declared.trap.Trap.TheVariants as trap
 use Rattle.wasm_syntax.specs.declared.value.Value.{Value}
 use Rattle.wasm_syntax.specs.declared.addresses.TableAddr.{TableAddr}
 use Rattle.wasm_syntax.specs.declared.addresses.InstAddr.{InstAddr}
@@ -22,12 +18,12 @@ use Rattle.wasm_syntax.specs.declared.addresses.ElemAddr.{ElemAddr}
 use Rattle.wasm_syntax.specs.declared.addresses.DataAddr.{DataAddr}
 use Rattle.wasm_valid.specs.ModuleRules.{is_typed_module}
 use Rattle.wasm_store.specs.declared.instances.Instance.{Instance}
-use Rattle.wasm_store.specs.Store.{Store, module_at, instance_at, table_at, element_at, with_table, with_element, replaced, run}
-use Rattle.wasm_store.specs.Whole.{IsLater, HasLists, HasElement, HasTable, AreTyped}
+use Rattle.wasm_store.specs.Store.{Store, no_module, blank, module_at, instance_at, table_at, element_at}
+use Rattle.wasm_store.specs.Whole.{IsLater, HasLists, HasElement, AreTyped}
 use Rattle.wasm_store.specs.Allocated.{table_addr}
 use Rattle.wasm_store.specs.Laws.{TableOfIndex, ElementOfIndex}
-use Rattle.wasm_instance.specs.Instantiation.{Outcome, goes, traps, and_then, write_element, fits, table_of, init_element, init_elements, init_datas, init_segments}
-use Rattle.wasm_instance.specs.Parts.{Ends, SameCode, module_of}
+use Rattle.wasm_instance.specs.Instantiation.{Outcome, goes, traps, and_then, table_of, init_element, init_elements, init_datas, init_segments}
+use Rattle.wasm_instance.specs.Parts.{Ends, SameCode, module_of, offset_in}
 use Rattle.wasm_instance.proofs.Rules.{table_is_there}
 
 pub zip_length : {A B : Type 0} (R : A → B → Type 0) (xs : List A) (ys : List B) → AllZip R xs ys → length xs ≡ length ys
@@ -35,20 +31,6 @@ zip_length R [] [] h = refl
 zip_length R [] (y ∷ ys) h = absurd h
 zip_length R (x ∷ xs) [] h = absurd h
 zip_length R (x ∷ xs) (y ∷ ys) h = ap suc (zip_length R xs ys h.1)
-
--- One whole segment.
-
-pub written_whole : (s t new : Store) (a : TableAddr) (e : ElemAddr) (at n : ℕ) → n ≡ length (element_at s e) → at + n ≤ length (table_at s a).entries → t ≡ with_table a (replaced at n (run (element_at s e) 0 n) (table_at s a)) s → new ≡ with_element e [] t → write_element (fits (table_at s a).entries at (length (element_at s e))) s a e at ≡ goes new
-written_whole s t new a e at n count within written dropped =
-    let items : List Value = element_at s e in
-    let test : fits (table_at s a).entries at (length items) ≡ true = le-leb (at + length items) (length (table_at s a).entries) (omega (arith, count, within)) in
-    let whole : run items 0 n ≡ items = ap (λ (k : ℕ). run items 0 k) count ∙ take-length items in
-    ap (λ (b : Bool). write_element b s a e at) test
-    ∙ ap goes (sym (dropped ∙ ap (λ (x : Store). with_element e [] x) (written ∙ ap (λ (vs : List Value). with_table a (replaced at n vs (table_at s a)) s) whole ∙ ap (λ (k : ℕ). with_table a (replaced at k items (table_at s a)) s) count)))
-
-pub trapped_whole : (s new : Store) (a : TableAddr) (e : ElemAddr) (at : ℕ) → length (table_at s a).entries < at + length (element_at s e) → new ≡ s → write_element (fits (table_at s a).entries at (length (element_at s e))) s a e at ≡ traps trap.TableRange new
-trapped_whole s new a e at past same =
-    ap (λ (b : Bool). write_element b s a e at) (lt-leb (at + length (element_at s e)) (length (table_at s a).entries) past) ∙ ap (traps trap.TableRange) (sym same)
 
 -- What an active segment names.
 
@@ -73,16 +55,16 @@ names_active tables elements s i k e x id lists typed at segment there active =
     let elem : (table_at s (table_of i x)).elem ≡ segment.ty = ap (λ (b : TableAddr). (table_at s b).elem) same ∙ named.2.1 ∙ table.2 in
     record { live = live; live_segment = has.0; typed = subst (λ ty. AreTyped s (element_at s e) ty) (sym elem) has.1 }
 
+place_there : {A : Type 0} (xs : List A) (k : ℕ) → k < length xs → (x : A) × (slice_get xs k ≡ Some x)
+place_there [] k h = absurd (omega (arith, h))
+place_there (x ∷ xs) zero h = (x, refl)
+place_there (x ∷ xs) (suc k) h = place_there xs k (omega (arith, h))
+
 -- the element at a place of the module
 pub segment_there : (s : Store) (i : Instance) (k : ℕ) → HasLists s i → k < length i.elems → (segment : Elem) × (slice_get (module_at s i.module).elems k ≡ Some segment)
 segment_there s i k lists within =
     let count : length i.elems ≡ length (module_at s i.module).elems = zip_length (HasElement s) i.elems (module_at s i.module).elems lists.elems in
-    at_place (module_at s i.module).elems k (omega (arith, count, within))
-  where
-    at_place : {A : Type 0} (xs : List A) (k : ℕ) → k < length xs → (x : A) × (slice_get xs k ≡ Some x)
-    at_place [] k h = absurd (omega (arith, h))
-    at_place (x ∷ xs) zero h = (x, refl)
-    at_place (x ∷ xs) (suc k) h = at_place xs k (omega (arith, h))
+    place_there (module_at s i.module).elems k (omega (arith, count, within))
 
 -- The row.
 
@@ -123,3 +105,19 @@ left_none m i offset s t k all no_datas left =
     ap (λ (o : Outcome). and_then o (init_datas i offset i.datas m.datas))
     (sym left ∙ ap (λ (us : List ElemAddr). init_elements i offset us (drop k m.elems) t) (ap (λ (j : ℕ). drop j i.elems) all ∙ drop-length i.elems) ∙ none_left i offset (drop k m.elems) t)
     ∙ ap (λ (ds : List Data). init_datas i offset i.datas ds t) no_datas ∙ no_data_left i offset i.datas t
+
+pub same_code : (s t u : Store) → SameCode s t → SameCode t u → SameCode s u
+same_code s t u h k = record { modules = k.modules ∙ h.modules; instances = k.instances ∙ h.instances; functions = k.functions ∙ h.functions }
+
+-- a step that is told of the store as it is, told of the instance as it was
+pub step_ends : (s t new : Store) (i : InstAddr) (values : List Value) (k : ℕ) (r : Result (Unit {0}) Trap) → SameCode s t → HasLists s (instance_at s i) → k < length (instance_at s i).elems → ((e : ElemAddr) (segment : Elem) → slice_get (instance_at t i).elems k ≡ Some e → slice_get (module_of t i).elems k ≡ Some segment → Ends (init_element (instance_at t i) (offset_in (module_of t i) (instance_at t i) values) e segment.mode t) r new) → (e : ElemAddr) × (segment : Elem) × (slice_get (instance_at s i).elems k ≡ Some e) × (slice_get (module_of s i).elems k ≡ Some segment) × Ends (init_element (instance_at s i) (offset_in (module_of s i) (instance_at s i) values) e segment.mode t) r new
+step_ends s t new i values k r same lists within h =
+    let instances : instance_at t i ≡ instance_at s i = ap (λ (is : List Instance). slice_index_or is i.0 (blank (record { 0 = 0 }))) same.instances in
+    let modules : module_of t i ≡ module_of s i = ap (λ (j : Instance). module_at t j.module) instances ∙ ap (λ (ms : List Module). slice_index_or ms (instance_at s i).module.0 no_module) same.modules in
+    let by_instance : (e : ElemAddr) (segment : Elem) → slice_get (instance_at s i).elems k ≡ Some e → slice_get (module_of t i).elems k ≡ Some segment → Ends (init_element (instance_at s i) (offset_in (module_of t i) (instance_at s i) values) e segment.mode t) r new =
+    subst (λ (j : Instance). (e : ElemAddr) (segment : Elem) → slice_get j.elems k ≡ Some e → slice_get (module_of t i).elems k ≡ Some segment → Ends (init_element j (offset_in (module_of t i) j values) e segment.mode t) r new) instances h in
+    let by_module : (e : ElemAddr) (segment : Elem) → slice_get (instance_at s i).elems k ≡ Some e → slice_get (module_of s i).elems k ≡ Some segment → Ends (init_element (instance_at s i) (offset_in (module_of s i) (instance_at s i) values) e segment.mode t) r new =
+    subst (λ (m : Module). (e : ElemAddr) (segment : Elem) → slice_get (instance_at s i).elems k ≡ Some e → slice_get m.elems k ≡ Some segment → Ends (init_element (instance_at s i) (offset_in m (instance_at s i) values) e segment.mode t) r new) modules by_instance in
+    let found = segment_there s (instance_at s i) k lists within in
+    let at = place_there (instance_at s i).elems k within in
+    (at.0, found.0, at.1, found.1, by_module at.0 found.0 at.1 found.1)
