@@ -4,11 +4,7 @@ use Rattle.embed_base.specs.declared.outside.OutsideKind.{OutsideKind}
 use Rattle.embed_script.specs.declared.value.Value.{Value}
 use Rattle.embed_script.specs.declared.stop.Stop.{Stop}
 use Rattle.embed_script.specs.Ends.{End, and_then, at_place}
-use Rattle.embed_script.specs.Functions.{Function, type_parameters, own_parameters, parameters_of, word_of, words_of}
-use Rattle.wasm_syntax.specs.declared.module.Module.{Module}
-use Rattle.wasm_syntax.specs.declared.module.Func.{Func}
-use Rattle.wasm_syntax.specs.declared.types.FuncType.{FuncType}
-use Rattle.small_machine.specs.Invocations.{TakesArguments}
+use Rattle.embed_script.specs.Functions.{word_of, words_of}
 use Rattle.embed_script.specs.Stops.{end_of, Ends}
 use Rattle.embed_script.specs.Words.{argument_of}
 
@@ -92,14 +88,3 @@ placed place (Err e) x is = cc
 pub placed_count : (place n : ℕ) (vs : List Value) (ws : List ℕ) → at_place place (words_of n vs) ≡ Ok ws → length ws ≡ n
 placed_count place n vs ws is = words_count n vs ws (placed place (words_of n vs) ws is)
 
-type_takes : (o : Option FuncType) (count : ℕ) → count ≡ type_parameters o → IfSome o (λ (g : FuncType). length g.params ≡ count)
-type_takes (Some g) count is = sym is
-type_takes None count is = tt
-
-own_takes : (m : Module) (o : Option Func) (count : ℕ) → count ≡ own_parameters m o → IfSome o (λ (f : Func). IfSome (slice_get m.types f.ty) (λ (g : FuncType). length g.params ≡ count))
-own_takes m (Some f) count is = type_takes (slice_get m.types f.ty) count is
-own_takes m None count is = tt
-
--- so many arguments are those that a function takes
-pub takes : (f : Function) (count : ℕ) → count ≡ parameters_of f → TakesArguments f.owner f.index count
-takes f count is = own_takes f.owner (slice_get f.owner.funcs f.index) count is

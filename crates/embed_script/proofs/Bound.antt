@@ -14,7 +14,7 @@ use Rattle.embed_script.specs.Tasks.{Names, IsBoundAs, binding_of}
 pub found : (b : Bindings) (names : Names) (name : List ℕ) (o : Option Bound) → IsBoundAs b names → o ≡ hash.get_by_text names name → b name ≡ option_map binding_of o
 found b names name o is same = sym (is name) ∙ ap (λ x. option_map binding_of x) (sym same)
 
-chosen : (t : Bool) (v : Bound) (o : Option Bound) → option_map binding_of (cond t (Some v) o) ≡ cond t (Some (binding_of v)) (option_map binding_of o)
+pub chosen : (t : Bool) (v : Bound) (o : Option Bound) → option_map binding_of (cond t (Some v) o) ≡ cond t (Some (binding_of v)) (option_map binding_of o)
 chosen true v o = refl
 chosen false v o = refl
 

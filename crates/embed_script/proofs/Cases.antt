@@ -10,8 +10,13 @@ use Rattle.std.specs.Fmt.{decimal}
 use Rattle.embed_script.specs.Operators.{operate, text_of}
 use Rattle.wasm_grammar.specs.Decoding as decoding
 use Rattle.wasm_grammar.specs.declared.built.Foreign.TheVariants as foreign
-use Rattle.embed_script.specs.Ends.{done, outside, past_budget, compile_error}
-use Rattle.embed_script.specs.Functions.{words_of, result_of, module_of}
+use Rattle.wasm_syntax.specs.declared.value.Value.TheVariants as w
+use Rattle.wasm_syntax.specs.declared.trap.Trap.TheVariants as because
+use Rattle.wasm_store.specs.Store.{empty_store}
+use Rattle.wasm_calls.specs.Calls as calls
+use Rattle.wasm_calls.specs.Calls.{ended, trapped, thrown}
+use Rattle.embed_script.specs.Ends.{done, outside, past_budget, compile_error, runtime_error, range_error}
+use Rattle.embed_script.specs.Functions.{words_of, result_value, settled, module_of}
 use Rattle.embed_script.specs.Outcome.{outcome_of, transcript_of, end_line}
 
 abbrev only : ℕ → ℕ → Sum
@@ -85,11 +90,17 @@ dropped = refl
 no_word : words_of 2 (values.Text (codes "a") ∷ []) ≡ Err kinds.TextNumber
 no_word = refl
 
-signed_result : result_of (Some (2147483648, 5)) ≡ Ok (values.Number (negsuc 2147483647), 5)
+signed_result : result_value (w.I32 2147483648 ∷ []) ≡ values.Number (negsuc 2147483647)
 signed_result = refl
 
-instructions_past_the_budget : result_of None ≡ Err (past_budget 1 0)
-instructions_past_the_budget = refl
+a_trap : settled (ended empty_store (trapped because.DivideByZero) 5) ≡ Err runtime_error
+a_trap = refl
+
+a_frame_too_many : settled (ended empty_store (thrown 0) 5) ≡ Err range_error
+a_frame_too_many = refl
+
+an_instruction_past_the_budget : settled (ended empty_store (calls.past_budget 2) 1) ≡ Err (past_budget 2 1)
+an_instruction_past_the_budget = refl
 
 -- let f = new WebAssembly.Instance(new WebAssembly.Module(readbuffer("m"))).exports.g;
 abbrev item : Script

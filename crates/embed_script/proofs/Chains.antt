@@ -11,6 +11,7 @@ use Rattle.small_parser.specs.declared.script.Form.TheVariants as forms
 use Rattle.small_parser.specs.declared.script.Node.{Node}
 use Rattle.small_parser.specs.Grammar.{Additive, Sum, product, added, Product, factor, times, Factor, number, text, name, parens, call, Passed}
 use Rattle.small_parser.specs.Shows.{AtNode, IsNumber, IsText, IsName, IsChain, IsCall, AreBelow, operator_of, SumShows, SumLeft, ProductShows, ProductLeft, FactorShows, PassedShow, sum_place, product_place}
+use Rattle.embed_script.specs.declared.state.State.{State}
 use Rattle.embed_script.specs.declared.value.Value.{Value}
 use Rattle.embed_script.specs.declared.value.Value.TheVariants as values
 use Rattle.embed_script.specs.declared.evaluate.Task.{Task}
@@ -30,24 +31,24 @@ abbrev product_todos : Product → List Todo
 product_todos (factor f) = evaluates (product (factor f)) ∷ []
 product_todos (times m k f) = product_todos m ++ evaluates (product (factor f)) ∷ applies operators.Times k ∷ []
 
-after_second : (y : Answer) (f : Value × ℕ → Answer) (g : Value × ℕ → Answer) → and_then y (λ w. and_then (f w) g) ≡ and_then (and_then y f) g
+after_second : (y : Answer) (f : Value × State → Answer) (g : Value × State → Answer) → and_then y (λ w. and_then (f w) g) ≡ and_then (and_then y f) g
 after_second (Ok w) f g = refl
 after_second (Err e) f g = refl
 
-after_both : (x : Answer) (y : ℕ → Answer) (f : Value → Value → ℕ → Answer) (g : Value × ℕ → Answer)
+after_both : (x : Answer) (y : State → Answer) (f : Value → Value → State → Answer) (g : Value × State → Answer)
     → and_then x (λ v. and_then (y v.1) (λ w. and_then (f v.0 w.0 w.1) g)) ≡ and_then (and_then x (λ v. and_then (y v.1) (λ w. f v.0 w.0 w.1))) g
 after_both (Ok v) y f g = after_second (y v.1) (λ w. f v.0 w.0 w.1) g
 after_both (Err e) y f g = refl
 
 -- they give what the expression gives
-sum_unrolls : (b : Bindings) (e : Sum) (rest : List Todo) (vs : List Value) (left : ℕ) → perform b (sum_todos e ++ rest) vs left ≡ and_then (sum_value b e left) (λ v. perform b rest (v.0 ∷ vs) v.1)
+sum_unrolls : (b : Bindings) (e : Sum) (rest : List Todo) (vs : List Value) (left : State) → perform b (sum_todos e ++ rest) vs left ≡ and_then (sum_value b e left) (λ v. perform b rest (v.0 ∷ vs) v.1)
 sum_unrolls b (product m) rest vs left = refl
 sum_unrolls b (added a o k m) rest vs left =
     ap (λ ts. perform b ts vs left) (append_assoc (sum_todos a) (evaluates (product m) ∷ applies (operator_of o) k ∷ []) rest)
     ∙ sum_unrolls b a (evaluates (product m) ∷ applies (operator_of o) k ∷ rest) vs left
     ∙ after_both (sum_value b a left) (product_value b m) (operated (operator_of o) k) (λ u. perform b rest (u.0 ∷ vs) u.1)
 
-product_unrolls : (b : Bindings) (m : Product) (rest : List Todo) (vs : List Value) (left : ℕ) → perform b (product_todos m ++ rest) vs left ≡ and_then (product_value b m left) (λ v. perform b rest (v.0 ∷ vs) v.1)
+product_unrolls : (b : Bindings) (m : Product) (rest : List Todo) (vs : List Value) (left : State) → perform b (product_todos m ++ rest) vs left ≡ and_then (product_value b m left) (λ v. perform b rest (v.0 ∷ vs) v.1)
 product_unrolls b (factor f) rest vs left = refl
 product_unrolls b (times m k f) rest vs left =
     ap (λ ts. perform b ts vs left) (append_assoc (product_todos m) (evaluates (product (factor f)) ∷ applies operators.Times k ∷ []) rest)
@@ -61,16 +62,16 @@ call_todos w k es = map evaluates es ++ calls w k (length es) ∷ []
 on_top : (v : Value) (ws vs : List Value) → reverse ws ++ (v ∷ vs) ≡ reverse (v ∷ ws) ++ vs
 on_top v ws vs = sym (ap (λ xs. xs ++ vs) (reverse-append (v ∷ []) ws) ∙ append_assoc (reverse ws) (v ∷ []) vs)
 
-one_more : (y : Answers) (v : Value) (vs : List Value) (f : List Value → ℕ → Answer) → and_then y (λ x. f (reverse x.0 ++ (v ∷ vs)) x.1) ≡ and_then (before v y) (λ x. f (reverse x.0 ++ vs) x.1)
+one_more : (y : Answers) (v : Value) (vs : List Value) (f : List Value → State → Answer) → and_then y (λ x. f (reverse x.0 ++ (v ∷ vs)) x.1) ≡ and_then (before v y) (λ x. f (reverse x.0 ++ vs) x.1)
 one_more (Ok x) v vs f = ap (λ xs. f xs x.1) (on_top v x.0 vs)
 one_more (Err e) v vs f = refl
 
-first_value : (x : Answer) (g : ℕ → Answers) (vs : List Value) (f : List Value → ℕ → Answer) (p : List Value → ℕ → Answer) → ((ws : List Value) (n : ℕ) → p ws n ≡ and_then (g n) (λ y. f (reverse y.0 ++ ws) y.1))
+first_value : (x : Answer) (g : State → Answers) (vs : List Value) (f : List Value → State → Answer) (p : List Value → State → Answer) → ((ws : List Value) (n : State) → p ws n ≡ and_then (g n) (λ y. f (reverse y.0 ++ ws) y.1))
     → and_then x (λ v. p (v.0 ∷ vs) v.1) ≡ and_then (and_then x (λ v. before v.0 (g v.1))) (λ y. f (reverse y.0 ++ vs) y.1)
 first_value (Ok v) g vs f p h = h (v.0 ∷ vs) v.1 ∙ one_more (g v.1) v.0 vs f
 first_value (Err e) g vs f p h = refl
 
-values_unroll : (b : Bindings) (es : List Sum) (rest : List Todo) (vs : List Value) (left : ℕ) → perform b (map evaluates es ++ rest) vs left ≡ and_then (values_of b es left) (λ x. perform b rest (reverse x.0 ++ vs) x.1)
+values_unroll : (b : Bindings) (es : List Sum) (rest : List Todo) (vs : List Value) (left : State) → perform b (map evaluates es ++ rest) vs left ≡ and_then (values_of b es left) (λ x. perform b rest (reverse x.0 ++ vs) x.1)
 values_unroll b [] rest vs left = refl
 values_unroll b (e ∷ es) rest vs left = first_value (sum_value b e left) (values_of b es) vs (perform b rest) (perform b (map evaluates es ++ rest)) (values_unroll b es rest)
 
@@ -82,14 +83,14 @@ off_top xs vs n is =
       ap (λ i. drop i (reverse xs ++ vs)) (sym same) ∙ drop-append_seam (reverse xs) vs,
     )
 
-call_on_top : (y : Answers) (n : ℕ) (vs : List Value) (g : List Value → ℕ → Answer) (p : List Value → ℕ → Answer) → ((x : List Value × ℕ) → y ≡ Ok x → length x.0 ≡ n)
+call_on_top : (y : Answers) (n : ℕ) (vs : List Value) (g : List Value → State → Answer) (p : List Value → State → Answer) → ((x : List Value × State) → y ≡ Ok x → length x.0 ≡ n)
     → and_then y (λ x. and_then (g (reverse (take n (reverse x.0 ++ vs))) x.1) (λ u. p (u.0 ∷ drop n (reverse x.0 ++ vs)) u.1)) ≡ and_then (and_then y (λ x. g x.0 x.1)) (λ u. p (u.0 ∷ vs) u.1)
 call_on_top (Ok x) n vs g p h =
     let off = off_top x.0 vs n (h x refl) in
     ap (λ xs. and_then (g xs x.1) (λ u. p (u.0 ∷ drop n (reverse x.0 ++ vs)) u.1)) off.0 ∙ ap (λ ws. and_then (g x.0 x.1) (λ u. p (u.0 ∷ ws) u.1)) off.1
 call_on_top (Err e) n vs g p h = refl
 
-call_unrolls : (b : Bindings) (w : List ℕ) (k : ℕ) (es : List Sum) (rest : List Todo) (vs : List Value) (left : ℕ)
+call_unrolls : (b : Bindings) (w : List ℕ) (k : ℕ) (es : List Sum) (rest : List Todo) (vs : List Value) (left : State)
     → perform b (call_todos w k es ++ rest) vs left ≡ and_then (and_then (values_of b es left) (λ x. called k (b w) x.0 x.1)) (λ v. perform b rest (v.0 ∷ vs) v.1)
 call_unrolls b w k es rest vs left =
     ap (λ ts. perform b ts vs left) (append_assoc (map evaluates es) (calls w k (length es) ∷ []) rest)
@@ -169,28 +170,28 @@ product_left_before (factor g) k nodes left id (x, is, same, here, shows, before
 product_left_before (times a j g) k nodes left id (front, x, is, (more, same, here, shows, before)) = subst (AllBefore id) (sym is) (before_append id front x (product_left_before a j nodes front id more) before)
 
 -- tasks that give an answer
-pub record Unrolls (b : Bindings) (nodes : List Node) (answer : ℕ → Answer) (xs : List Task) : Type 0 where
+pub record Unrolls (b : Bindings) (nodes : List Node) (answer : State → Answer) (xs : List Task) : Type 0 where
   pub todos : List Todo
   pub shown : TodosShow nodes todos xs
-  pub unrolls : (rest : List Todo) (vs : List Value) (left : ℕ) → perform b (todos ++ rest) vs left ≡ and_then (answer left) (λ v. perform b rest (v.0 ∷ vs) v.1)
+  pub unrolls : (rest : List Todo) (vs : List Value) (left : State) → perform b (todos ++ rest) vs left ≡ and_then (answer left) (λ v. perform b rest (v.0 ∷ vs) v.1)
   pub fits : (rest : List Todo) (n : ℕ) → Fits rest (suc n) → Fits (todos ++ rest) n
 
 -- what a chain's tasks are, and where its operands stand
-pub record ReadsChain (b : Bindings) (nodes : List Node) (id : ℕ) (answer : ℕ → Answer) (left : List Operand) (last : NodeId) : Type 0 where
+pub record ReadsChain (b : Bindings) (nodes : List Node) (id : ℕ) (answer : State → Answer) (left : List Operand) (last : NodeId) : Type 0 where
   pub tasks : Unrolls b nodes answer (chain_tasks left last)
   pub before : AllBefore id left
   pub last_before : last.0 < id
 
 -- and a call's
-pub record ReadsCall (b : Bindings) (nodes : List Node) (id : ℕ) (answer : ℕ → Answer) (arguments : List NodeId) : Type 0 where
+pub record ReadsCall (b : Bindings) (nodes : List Node) (id : ℕ) (answer : State → Answer) (arguments : List NodeId) : Type 0 where
   pub tasks : Unrolls b nodes answer (call_tasks arguments (record { 0 = id }))
   pub before : AreBelow arguments id
 
 -- what an answer is, by the form of the node that shows its expression
-abbrev pub Reads : Bindings → List Node → ℕ → (ℕ → Answer) → Form → ℕ → Type 0
-Reads b nodes id answer (forms.Number n) k = (left : ℕ) → answer left ≡ keeping left (at_place k (number_of (pos n)))
-Reads b nodes id answer (forms.Text s) k = (left : ℕ) → answer left ≡ Ok (values.Text s, left)
-Reads b nodes id answer (forms.Name w) k = (left : ℕ) → answer left ≡ keeping left (named k (b w))
+abbrev pub Reads : Bindings → List Node → ℕ → (State → Answer) → Form → ℕ → Type 0
+Reads b nodes id answer (forms.Number n) k = (left : State) → answer left ≡ keeping left (at_place k (number_of (pos n)))
+Reads b nodes id answer (forms.Text s) k = (left : State) → answer left ≡ Ok (values.Text s, left)
+Reads b nodes id answer (forms.Name w) k = (left : State) → answer left ≡ keeping left (named k (b w))
 Reads b nodes id answer (forms.Chain left last) k = ReadsChain b nodes id answer left last
 Reads b nodes id answer (forms.Call callee arguments) k = ReadsCall b nodes id answer arguments
 Reads b nodes id answer _ k = ⊥

@@ -7,6 +7,7 @@ use Rattle.small_parser.specs.declared.script.Form.TheVariants as forms
 use Rattle.small_parser.specs.declared.script.Node.{Node}
 use Rattle.small_parser.specs.Grammar.{Sum}
 use Rattle.small_parser.specs.Shows.{SumShows}
+use Rattle.embed_script.specs.declared.state.State.{State}
 use Rattle.embed_script.specs.Ends.{charge}
 use Rattle.embed_script.specs.Functions.{Modules, instance_of}
 use Rattle.embed_script.specs.Evaluation.{Bindings, value, function, sum_value}
@@ -23,13 +24,13 @@ statement_at nodes s id node form is same shows =
     let here = subst (λ o. IsSomeAnd o (λ n. IsPlaceOf s n.place × FormShows nodes s n.form)) at shows in
     (here.0, subst (λ f. FormShows nodes s f) same here.1)
 
-pub effect_declares : (modules : Modules) (b : Bindings) (left : ℕ) (lines : List (List ℕ)) (nodes : List Node) (s : Statement) (name : List ℕ) (id : NodeId) (k : ℕ) → IsPlaceOf s k → FormShows nodes s (forms.Let name id)
+pub effect_declares : (modules : Modules) (b : Bindings) (left : State) (lines : List (List ℕ)) (nodes : List Node) (s : Statement) (name : List ℕ) (id : NodeId) (k : ℕ) → IsPlaceOf s k → FormShows nodes s (forms.Let name id)
     → (e : Sum) × SumShows e nodes id.0 × (effect modules b left lines s ≡ after lines (sum_value b e left) (λ v. going (bound b name (value v.0)) v.1 lines))
 effect_declares modules b left lines nodes (declares w e) name id k here (same, shows) = (e, shows, ap (λ n. after lines (sum_value b e left) (λ v. going (bound b n (value v.0)) v.1 lines)) (sym same))
 effect_declares modules b left lines nodes (binds place w i) name id k here h = absurd h
 effect_declares modules b left lines nodes (prints a) name id k here h = absurd h
 
-pub effect_binds : (modules : Modules) (b : Bindings) (left : ℕ) (lines : List (List ℕ)) (nodes : List Node) (s : Statement) (name file export : List ℕ) (k : ℕ) → IsPlaceOf s k → FormShows nodes s (forms.Bind name file export)
+pub effect_binds : (modules : Modules) (b : Bindings) (left : State) (lines : List (List ℕ)) (nodes : List Node) (s : Statement) (name file export : List ℕ) (k : ℕ) → IsPlaceOf s k → FormShows nodes s (forms.Bind name file export)
     → effect modules b left lines s ≡ after lines (instance_of modules file export k left) (λ f. going (bound b name (function f.0)) f.1 lines)
 effect_binds modules b left lines nodes (declares w e) name file export k here h = absurd h
 effect_binds modules b left lines nodes (binds place w i) name file export k here (same, file_is, export_is) =
@@ -39,7 +40,7 @@ effect_binds modules b left lines nodes (binds place w i) name file export k her
     ∙ ap (λ j. after lines (instance_of modules file export j left) (λ f. going (bound b name (function f.0)) f.1 lines)) (sym here)
 effect_binds modules b left lines nodes (prints a) name file export k here h = absurd h
 
-pub effect_prints : (modules : Modules) (b : Bindings) (left : ℕ) (lines : List (List ℕ)) (nodes : List Node) (s : Statement) (arguments : List NodeId) (k : ℕ) → IsPlaceOf s k → FormShows nodes s (forms.Print arguments)
+pub effect_prints : (modules : Modules) (b : Bindings) (left : State) (lines : List (List ℕ)) (nodes : List Node) (s : Statement) (arguments : List NodeId) (k : ℕ) → IsPlaceOf s k → FormShows nodes s (forms.Print arguments)
     → (es : List Sum) × SumsShow nodes es arguments × (effect modules b left lines s ≡ after lines (values_of b es left) (λ vs. after lines (charge 1 vs.1) (λ rest. going b rest (lines ++ line_of vs.0 ∷ []))))
 effect_prints modules b left lines nodes (declares w e) arguments k here h = absurd h
 effect_prints modules b left lines nodes (binds place w i) arguments k here h = absurd h

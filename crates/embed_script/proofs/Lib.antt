@@ -4,6 +4,8 @@ pub mod Chains
 pub mod Steps
 pub mod Lines
 pub mod Bound
+pub mod Serving
+pub mod Instances
 pub mod Runs
 pub mod Loads
 pub mod Arguments

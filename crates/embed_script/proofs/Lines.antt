@@ -7,6 +7,7 @@ use Rattle.small_parser.specs.declared.script.NodeId.{NodeId}
 use Rattle.small_parser.specs.declared.script.Node.{Node}
 use Rattle.small_parser.specs.Grammar.{Sum}
 use Rattle.small_parser.specs.Shows.{SumShows}
+use Rattle.embed_script.specs.declared.state.State.{State}
 use Rattle.embed_script.specs.declared.value.Value.{Value}
 use Rattle.embed_script.specs.Values.{shown_of}
 use Rattle.embed_script.specs.Ends.{End, and_then}
@@ -22,7 +23,7 @@ after_values vs (Ok ws) = Ok (vs ++ ws.0, ws.1)
 after_values vs (Err e) = Err e
 
 -- the expressions that are left, and what all of them give
-pub record ValuesLeft (nodes : List Node) (b : Bindings) (answer : Answers) (ids : List NodeId) (done : List Value) (left : ℕ) : Type 0 where
+pub record ValuesLeft (nodes : List Node) (b : Bindings) (answer : Answers) (ids : List NodeId) (done : List Value) (left : State) : Type 0 where
   pub rest : List Sum
   pub shown : SumsShow nodes rest ids
   pub gives : answer ≡ after_values done (values_of b rest left)
@@ -50,19 +51,19 @@ line_first vs i v none within is =
     ap line_of (taken ∙ ap (λ ws. ws ++ v ∷ []) empty) ∙ sym (ap (λ ws. line_of ws ++ shown_of v) empty)
 
 -- the first of the expressions that are left
-pub record Front (nodes : List Node) (b : Bindings) (answer : Answers) (id : NodeId) (ids : List NodeId) (done : List Value) (left : ℕ) : Type 0 where
+pub record Front (nodes : List Node) (b : Bindings) (answer : Answers) (id : NodeId) (ids : List NodeId) (done : List Value) (left : State) : Type 0 where
   pub first : Sum
   pub rest : List Sum
   pub first_shown : SumShows first nodes id.0
   pub rest_shown : SumsShow nodes rest ids
   pub gives : answer ≡ after_values done (values_of b (first ∷ rest) left)
 
-front_of : (nodes : List Node) (b : Bindings) (answer : Answers) (id : NodeId) (ids : List NodeId) (done : List Value) (left : ℕ) (es : List Sum)
+front_of : (nodes : List Node) (b : Bindings) (answer : Answers) (id : NodeId) (ids : List NodeId) (done : List Value) (left : State) (es : List Sum)
     → SumsShow nodes es (id ∷ ids) → answer ≡ after_values done (values_of b es left) → Front nodes b answer id ids done left
 front_of nodes b answer id ids done left [] shown gives = absurd shown
 front_of nodes b answer id ids done left (e ∷ es) shown gives = record { first = e; rest = es; first_shown = shown.0; rest_shown = shown.1; gives = gives }
 
-pub front : (nodes : List Node) (b : Bindings) (answer : Answers) (ids : List NodeId) (i : ℕ) (d : NodeId) (done : List Value) (left : ℕ) → i < length ids
+pub front : (nodes : List Node) (b : Bindings) (answer : Answers) (ids : List NodeId) (i : ℕ) (d : NodeId) (done : List Value) (left : State) → i < length ids
     → ValuesLeft nodes b answer (drop i ids) done left → Front nodes b answer (get_or ids i d) (drop (i + 1) ids) done left
 front nodes b answer ids i d done left within h =
     front_of nodes b answer (get_or ids i d) (drop (i + 1) ids) done left h.rest (subst (λ xs. SumsShow nodes h.rest xs) (drop_more ids i d within) h.shown) h.gives
@@ -72,7 +73,7 @@ one_more done v (Ok ws) = ap (λ vs. Ok (vs, ws.1)) (sym (append_assoc done (v �
 one_more done v (Err e) = refl
 
 -- its value is one more of the values
-pub value_done : (nodes : List Node) (b : Bindings) (answer : Answers) (id : NodeId) (ids : List NodeId) (v : Value) (done more : List Value) (left rest : ℕ) (f : Front nodes b answer id ids done left)
+pub value_done : (nodes : List Node) (b : Bindings) (answer : Answers) (id : NodeId) (ids : List NodeId) (v : Value) (done more : List Value) (left rest : State) (f : Front nodes b answer id ids done left)
     → sum_value b f.first left ≡ Ok (v, rest) → more ≡ done ++ v ∷ [] → ValuesLeft nodes b answer ids more rest
 value_done nodes b answer id ids v done more left rest f is grown =
     subst (λ vs. ValuesLeft nodes b answer ids vs rest) (sym grown) (record {
@@ -81,22 +82,22 @@ value_done nodes b answer id ids v done more left rest f is grown =
       gives = f.gives ∙ ap (λ r. after_values done (and_then r (λ w. and_then (values_of b f.rest w.1) (λ vs. Ok (w.0 ∷ vs.0, vs.1))))) is ∙ one_more done v (values_of b f.rest rest);
     })
 
-ended_all : (b : Bindings) (o : Option End) (e : Sum) (es : List Sum) (left : ℕ) (done : List Value) (answer : Answers) → answer ≡ after_values done (values_of b (e ∷ es) left)
+ended_all : (b : Bindings) (o : Option End) (e : Sum) (es : List Sum) (left : State) (done : List Value) (answer : Answers) → answer ≡ after_values done (values_of b (e ∷ es) left)
     → IfSome o (λ end. sum_value b e left ≡ Err end) → IfSome o (λ end. answer ≡ Err end)
 ended_all b None e es left done answer gives h = tt
 ended_all b (Some end) e es left done answer gives h = gives ∙ ap (λ r. after_values done (and_then r (λ w. and_then (values_of b es w.1) (λ vs. Ok (w.0 ∷ vs.0, vs.1))))) h
 
 -- its end is that of all
-pub end_of_all : (nodes : List Node) (b : Bindings) (answer : Answers) (id : NodeId) (ids : List NodeId) (done : List Value) (left : ℕ) (stop : Stop) (f : Front nodes b answer id ids done left)
+pub end_of_all : (nodes : List Node) (b : Bindings) (answer : Answers) (id : NodeId) (ids : List NodeId) (done : List Value) (left : State) (stop : Stop) (f : Front nodes b answer id ids done left)
     → Ends stop (sum_value b f.first left) → Ends stop answer
 end_of_all nodes b answer id ids done left stop f h = ended_all b (end_of stop) f.first f.rest left done answer f.gives h
 
-none_left : (nodes : List Node) (b : Bindings) (answer : Answers) (done : List Value) (left : ℕ) (es : List Sum) → SumsShow nodes es [] → answer ≡ after_values done (values_of b es left) → answer ≡ Ok (done, left)
+none_left : (nodes : List Node) (b : Bindings) (answer : Answers) (done : List Value) (left : State) (es : List Sum) → SumsShow nodes es [] → answer ≡ after_values done (values_of b es left) → answer ≡ Ok (done, left)
 none_left nodes b answer done left [] shown gives = gives ∙ ap (λ vs. Ok (vs, left)) (append-nil done)
 none_left nodes b answer done left (e ∷ es) shown gives = absurd shown
 
 -- where no expression is left, the values are those of all
-pub all_done : (nodes : List Node) (b : Bindings) (answer : Answers) (ids : List NodeId) (i : ℕ) (done : List Value) (left : ℕ) → i ≡ length ids → ValuesLeft nodes b answer (drop i ids) done left → answer ≡ Ok (done, left)
+pub all_done : (nodes : List Node) (b : Bindings) (answer : Answers) (ids : List NodeId) (i : ℕ) (done : List Value) (left : State) → i ≡ length ids → ValuesLeft nodes b answer (drop i ids) done left → answer ≡ Ok (done, left)
 all_done nodes b answer ids i done left at_end h =
     let none : drop i ids ≡ [] = ap (λ j. drop j ids) at_end ∙ drop-length ids in
     none_left nodes b answer done left h.rest (subst (λ xs. SumsShow nodes h.rest xs) none h.shown) h.gives

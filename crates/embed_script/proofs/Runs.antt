@@ -12,8 +12,10 @@ use Rattle.small_parser.specs.declared.script.Form.TheVariants as forms
 use Rattle.small_parser.specs.declared.script.Node.{Node}
 use Rattle.small_parser.specs.Grammar.{Arguments, Script, nothing, declaration, binding, printing}
 use Rattle.small_parser.specs.Shows.{IsPrint, ArgumentsShow, ScriptShows}
+use Rattle.embed_script.specs.declared.state.State.{State}
 use Rattle.embed_script.specs.declared.run.Run.{Run}
 use Rattle.embed_script.specs.declared.stop.Stop.{Stop}
+use Rattle.wasm_store.specs.Store.{empty_store}
 use Rattle.embed_script.specs.Ends.{End, done}
 use Rattle.embed_script.specs.Functions.{Modules}
 use Rattle.embed_script.specs.Evaluation.{Bindings}
@@ -72,24 +74,24 @@ pub record RunLeft (modules : Modules) (nodes : List Node) (budget : ℕ) (d : S
   pub is_bound : IsBoundAs bindings run.names
   pub printed : HasPrinted lines run
   pub shown : StatementsShow nodes rest ids
-  pub gives : run_of modules budget d ≡ fold (performed modules) (going bindings run.left lines) rest
+  pub gives : run_of modules budget d ≡ fold (performed modules) (going bindings run.state lines) rest
 
 -- the first of the statements that are left
-pub record FirstLeft (modules : Modules) (nodes : List Node) (budget : ℕ) (d : Script) (id : NodeId) (ids : List NodeId) (b : Bindings) (left : ℕ) (lines : List (List ℕ)) : Type 0 where
+pub record FirstLeft (modules : Modules) (nodes : List Node) (budget : ℕ) (d : Script) (id : NodeId) (ids : List NodeId) (b : Bindings) (left : State) (lines : List (List ℕ)) : Type 0 where
   pub first : Statement
   pub rest : List Statement
   pub first_shown : StatementShows nodes first id
   pub rest_shown : StatementsShow nodes rest ids
   pub gives : run_of modules budget d ≡ fold (performed modules) (performed modules (going b left lines) first) rest
 
-first_of : (modules : Modules) (nodes : List Node) (budget : ℕ) (d : Script) (id : NodeId) (ids : List NodeId) (b : Bindings) (left : ℕ) (lines : List (List ℕ)) (ss : List Statement)
+first_of : (modules : Modules) (nodes : List Node) (budget : ℕ) (d : Script) (id : NodeId) (ids : List NodeId) (b : Bindings) (left : State) (lines : List (List ℕ)) (ss : List Statement)
     → StatementsShow nodes ss (id ∷ ids) → run_of modules budget d ≡ fold (performed modules) (going b left lines) ss → FirstLeft modules nodes budget d id ids b left lines
 first_of modules nodes budget d id ids b left lines [] shown gives = absurd shown
 first_of modules nodes budget d id ids b left lines (s ∷ ss) shown gives = record { first = s; rest = ss; first_shown = shown.0; rest_shown = shown.1; gives = gives }
 
-pub first_left : (modules : Modules) (nodes : List Node) (budget : ℕ) (d : Script) (ids : List NodeId) (i : ℕ) (x : NodeId) (run : Run) → i < length ids → (h : RunLeft modules nodes budget d (drop i ids) run) → FirstLeft modules nodes budget d (get_or ids i x) (drop (i + 1) ids) h.bindings run.left h.lines
+pub first_left : (modules : Modules) (nodes : List Node) (budget : ℕ) (d : Script) (ids : List NodeId) (i : ℕ) (x : NodeId) (run : Run) → i < length ids → (h : RunLeft modules nodes budget d (drop i ids) run) → FirstLeft modules nodes budget d (get_or ids i x) (drop (i + 1) ids) h.bindings run.state h.lines
 first_left modules nodes budget d ids i x run within h =
-    first_of modules nodes budget d (get_or ids i x) (drop (i + 1) ids) h.bindings run.left h.lines h.rest (subst (λ xs. StatementsShow nodes h.rest xs) (drop_more ids i x within) h.shown) h.gives
+    first_of modules nodes budget d (get_or ids i x) (drop (i + 1) ids) h.bindings run.state h.lines h.rest (subst (λ xs. StatementsShow nodes h.rest xs) (drop_more ids i x within) h.shown) h.gives
 
 -- a statement was performed, and the run goes on
 pub performed_left : (modules : Modules) (nodes : List Node) (budget : ℕ) (d : Script) (ids : List NodeId) (run : Run) (p : Progress) (rest : List Statement) → Stands p run → StatementsShow nodes rest ids → run_of modules budget d ≡ fold (performed modules) p rest → RunLeft modules nodes budget d ids run
@@ -111,17 +113,17 @@ ended_for_good modules budget d run (Some e) p rest h gives = stays_ended module
 pub stopped_left : (modules : Modules) (budget : ℕ) (d : Script) (run : Run) (stop : Stop) (p : Progress) (rest : List Statement) → Performs {A = Unit {0}} (Err stop) p run → run_of modules budget d ≡ fold (performed modules) p rest → Performs {A = Unit {0}} (Err stop) (run_of modules budget d) run
 stopped_left modules budget d run stop p rest h gives = ended_for_good modules budget d run (end_of stop) p rest h gives
 
-nothing_left : (modules : Modules) (nodes : List Node) (budget : ℕ) (d : Script) (b : Bindings) (left : ℕ) (lines : List (List ℕ)) (ss : List Statement) → StatementsShow nodes ss [] → run_of modules budget d ≡ fold (performed modules) (going b left lines) ss → outcome_of modules budget d ≡ record { lines = lines; end = done }
+nothing_left : (modules : Modules) (nodes : List Node) (budget : ℕ) (d : Script) (b : Bindings) (left : State) (lines : List (List ℕ)) (ss : List Statement) → StatementsShow nodes ss [] → run_of modules budget d ≡ fold (performed modules) (going b left lines) ss → outcome_of modules budget d ≡ record { lines = lines; end = done }
 nothing_left modules nodes budget d b left lines [] shown gives = ap outcome_of_progress gives
 nothing_left modules nodes budget d b left lines (s ∷ ss) shown gives = absurd shown
 
 -- no statement is left
 pub done_outcome : (modules : Modules) (nodes : List Node) (budget : ℕ) (d : Script) (ids : List NodeId) (i : ℕ) (run : Run) → i ≡ length ids → (h : RunLeft modules nodes budget d (drop i ids) run) → outcome_of modules budget d ≡ record { lines = h.lines; end = done }
 done_outcome modules nodes budget d ids i run at_end h =
-    nothing_left modules nodes budget d h.bindings run.left h.lines h.rest (subst (λ xs. StatementsShow nodes h.rest xs) (ap (λ j. drop j ids) at_end ∙ drop-length ids) h.shown) h.gives
+    nothing_left modules nodes budget d h.bindings run.state h.lines h.rest (subst (λ xs. StatementsShow nodes h.rest xs) (ap (λ j. drop j ids) at_end ∙ drop-length ids) h.shown) h.gives
 
 -- the start of a run
-pub begun_left : (modules : Modules) (nodes : List Node) (budget : ℕ) (d : Script) (ids : List NodeId) (run : Run) → ScriptShows d nodes ids → hash.IsEmpty run.names → string_bytes run.text ≡ [] → run.left ≡ budget → RunLeft modules nodes budget d ids run
+pub begun_left : (modules : Modules) (nodes : List Node) (budget : ℕ) (d : Script) (ids : List NodeId) (run : Run) → ScriptShows d nodes ids → hash.IsEmpty run.names → string_bytes run.text ≡ [] → run.state ≡ record { store = empty_store; left = budget } → RunLeft modules nodes budget d ids run
 begun_left modules nodes budget d ids run shows empty no_text whole = record {
   bindings = λ name. None;
   lines = [];

@@ -11,6 +11,7 @@ use Rattle.small_parser.specs.declared.script.Form.TheVariants as forms
 use Rattle.small_parser.specs.declared.script.Node.{Node}
 use Rattle.small_parser.specs.Grammar.{Sum, product, added, Product, factor, times, Factor, number, text, name, parens, call}
 use Rattle.small_parser.specs.Shows.{SumShows, ProductShows, FactorShows, IsCall}
+use Rattle.embed_script.specs.declared.state.State.{State}
 use Rattle.embed_script.specs.declared.value.Value.{Value}
 use Rattle.embed_script.specs.declared.evaluate.Task.{Task}
 use Rattle.embed_script.specs.declared.evaluate.Task.TheVariants as tasks
@@ -31,7 +32,7 @@ pub ends_first : {A B : Type 0} → (stop : Stop) (a : Result A End) (f : A → 
 ends_first stop a f h = ended_first (end_of stop) a f h
 
 -- a value is put on the values
-pub value_step : (nodes : List Node) (b : Bindings) (answer : Result Value End) (ts : List Todo) (v : Value) (xs : List Task) (old new : List Value) (left : ℕ)
+pub value_step : (nodes : List Node) (b : Bindings) (answer : Result Value End) (ts : List Todo) (v : Value) (xs : List Task) (old new : List Value) (left : State)
     → answer ≡ Ok v → TodosShow nodes ts xs → Fits ts (suc (length old)) → new ≡ old ++ v ∷ []
     → Continues nodes b (and_then (keeping left answer) (λ w. perform b ts (w.0 ∷ reverse old) w.1)) xs (reverse new) left
 value_step nodes b answer ts v xs old new left is shown fits more =
@@ -46,11 +47,11 @@ value_step nodes b answer ts v xs old new left is shown fits more =
     })
 
 -- an end ends the evaluation
-pub ended_step : (stop : Stop) (answer : Result Value End) (left : ℕ) (f : Value × ℕ → Answer) → Ends stop answer → Ends stop (and_then (keeping left answer) f)
+pub ended_step : (stop : Stop) (answer : Result Value End) (left : State) (f : Value × State → Answer) → Ends stop answer → Ends stop (and_then (keeping left answer) f)
 ended_step stop answer left f h = ends_first stop (keeping left answer) f (ends_first stop answer (λ x. Ok (x, left)) h)
 
 -- tasks take the place of an expression's
-pub unrolled_step : (nodes : List Node) (b : Bindings) (e : Sum) (ts : List Todo) (xs : List Task) (old new : List Task) (vs : List Value) (n left : ℕ)
+pub unrolled_step : (nodes : List Node) (b : Bindings) (e : Sum) (ts : List Todo) (xs : List Task) (old new : List Task) (vs : List Value) (n : ℕ) (left : State)
     → Unrolls b nodes (sum_value b e) xs → TodosShow nodes ts old → Fits ts (suc n) → n ≡ length vs → new ≡ xs ++ old
     → Continues nodes b (perform b (evaluates e ∷ ts) vs left) new vs left
 unrolled_step nodes b e ts xs old new vs n left reads shown fits long is =
@@ -63,7 +64,7 @@ unrolled_step nodes b e ts xs old new vs n left reads shown fits long is =
     })
 
 -- the tasks are fewer after a chain's step
-pub chain_shrinks : (nodes : List Node) (b : Bindings) (id : ℕ) (answer : ℕ → Answer) (node : Node) (left : List Operand) (last : NodeId) (old new : List Task)
+pub chain_shrinks : (nodes : List Node) (b : Bindings) (id : ℕ) (answer : State → Answer) (node : Node) (left : List Operand) (last : NodeId) (old new : List Task)
     → slice_get nodes id ≡ Some node → node.form ≡ forms.Chain left last → ReadsChain b nodes id answer left last → new ≡ chain_tasks left last ++ old
     → tasks_size nodes new < size_of nodes (suc id) id + tasks_size nodes old
 chain_shrinks nodes b id answer node left last old new at is reads more =
@@ -73,7 +74,7 @@ chain_shrinks nodes b id answer node left last old new at is reads more =
     subst P (sym more) (omega (arith, smaller, sum))
 
 -- after a call's
-pub call_shrinks : (nodes : List Node) (b : Bindings) (id : ℕ) (answer : ℕ → Answer) (node : Node) (callee : List ℕ) (arguments : List NodeId) (task : NodeId) (old new : List Task)
+pub call_shrinks : (nodes : List Node) (b : Bindings) (id : ℕ) (answer : State → Answer) (node : Node) (callee : List ℕ) (arguments : List NodeId) (task : NodeId) (old new : List Task)
     → slice_get nodes id ≡ Some node → node.form ≡ forms.Call callee arguments → ReadsCall b nodes id answer arguments → new ≡ call_tasks arguments task ++ old
     → tasks_size nodes new < size_of nodes (suc id) id + tasks_size nodes old
 call_shrinks nodes b id answer node callee arguments task old new at is reads more =
@@ -133,45 +134,45 @@ and_then_ok (Ok v) = refl
 and_then_ok (Err o) = refl
 
 -- the start of an evaluation
-pub begun : (nodes : List Node) (b : Bindings) (e : Sum) (id : NodeId) (xs : List Task) (vs : List Value) (left : ℕ) → SumShows e nodes id.0 → xs ≡ tasks.Evaluate id ∷ [] → vs ≡ [] → Continues nodes b (sum_value b e left) (reverse xs) (reverse vs) left
+pub begun : (nodes : List Node) (b : Bindings) (e : Sum) (id : NodeId) (xs : List Task) (vs : List Value) (left : State) → SumShows e nodes id.0 → xs ≡ tasks.Evaluate id ∷ [] → vs ≡ [] → Continues nodes b (sum_value b e left) (reverse xs) (reverse vs) left
 begun nodes b e id xs vs left shows is empty =
     let P : List Task → Type 0 = λ ys. Continues nodes b (sum_value b e left) (reverse ys) (reverse vs) left in
     let Q : List Value → Type 0 = λ ws. Continues nodes b (sum_value b e left) (tasks.Evaluate id ∷ []) (reverse ws) left in
     subst P (sym is) (subst Q (sym empty) (record { todos = evaluates e ∷ []; shown = (shows, tt); fits = refl; gives = and_then_ok (sum_value b e left) }))
 
 -- the next thing to do
-pub record Next (nodes : List Node) (b : Bindings) (answer : Answer) (x : Task) (xs : List Task) (vs : List Value) (n left : ℕ) : Type 0 where
+pub record Next (nodes : List Node) (b : Bindings) (answer : Answer) (x : Task) (xs : List Task) (vs : List Value) (n : ℕ) (left : State) : Type 0 where
   pub todo : Todo
   pub rest : List Todo
   pub shown : TodosShow nodes (todo ∷ rest) (x ∷ xs)
   pub fits : Fits (todo ∷ rest) n
   pub gives : answer ≡ perform b (todo ∷ rest) vs left
 
-next_of : (nodes : List Node) (b : Bindings) (answer : Answer) (x : Task) (xs : List Task) (vs : List Value) (n left : ℕ) (todos : List Todo)
+next_of : (nodes : List Node) (b : Bindings) (answer : Answer) (x : Task) (xs : List Task) (vs : List Value) (n : ℕ) (left : State) (todos : List Todo)
     → TodosShow nodes todos (x ∷ xs) → Fits todos n → answer ≡ perform b todos vs left → Next nodes b answer x xs vs n left
 next_of nodes b answer x xs vs n left [] shown fits gives = absurd shown
 next_of nodes b answer x xs vs n left (t ∷ ts) shown fits gives = record { todo = t; rest = ts; shown = shown; fits = fits; gives = gives }
 
-pub next : (nodes : List Node) (b : Bindings) (answer : Answer) (x : Task) (all others : List Task) (done : List Value) (left : ℕ)
+pub next : (nodes : List Node) (b : Bindings) (answer : Answer) (x : Task) (all others : List Task) (done : List Value) (left : State)
     → Continues nodes b answer (reverse all) (reverse done) left → all ≡ others ++ x ∷ [] → Next nodes b answer x (reverse others) (reverse done) (length done) left
 next nodes b answer x all others done left h is =
     let turned : reverse all ≡ x ∷ reverse others = ap reverse is ∙ reverse-append others (x ∷ []) in
     next_of nodes b answer x (reverse others) (reverse done) (length done) left h.todos (subst (λ ys. TodosShow nodes h.todos ys) turned h.shown) (subst (λ k. Fits h.todos k) (length-reverse done) h.fits) h.gives
 
 -- a step keeps what an evaluation gives
-pub goes_on : (nodes : List Node) (b : Bindings) (answer other : Answer) (xs : List Task) (vs : List Value) (left : ℕ) → answer ≡ other → Continues nodes b other xs vs left → Continues nodes b answer xs vs left
+pub goes_on : (nodes : List Node) (b : Bindings) (answer other : Answer) (xs : List Task) (vs : List Value) (left : State) → answer ≡ other → Continues nodes b other xs vs left → Continues nodes b answer xs vs left
 goes_on nodes b answer other xs vs left same h = subst (λ a. Continues nodes b a xs vs left) (sym same) h
 
 -- and so does one that ends it
 pub ends_so : (stop : Stop) (answer other : Answer) → answer ≡ other → Ends stop other → Ends stop answer
 ends_so stop answer other same h = subst (λ a. Ends stop a) (sym same) h
 
-ended : (nodes : List Node) (b : Bindings) (answer : Answer) (vs : List Value) (n left : ℕ) (todos : List Todo) → TodosShow nodes todos [] → Fits todos n → answer ≡ perform b todos vs left → (n ≡ 1) × (answer ≡ last_value vs left)
+ended : (nodes : List Node) (b : Bindings) (answer : Answer) (vs : List Value) (n : ℕ) (left : State) (todos : List Todo) → TodosShow nodes todos [] → Fits todos n → answer ≡ perform b todos vs left → (n ≡ 1) × (answer ≡ last_value vs left)
 ended nodes b answer vs n left [] shown fits gives = (fits, gives)
 ended nodes b answer vs n left (t ∷ ts) shown fits gives = absurd shown
 
 -- where nothing is left to do, there is one value, and it is the answer
-pub one_left : (nodes : List Node) (b : Bindings) (answer : Answer) (all : List Task) (done : List Value) (left : ℕ) → Continues nodes b answer (reverse all) (reverse done) left → all ≡ [] → (length done ≡ 1) × (answer ≡ last_value (reverse done) left)
+pub one_left : (nodes : List Node) (b : Bindings) (answer : Answer) (all : List Task) (done : List Value) (left : State) → Continues nodes b answer (reverse all) (reverse done) left → all ≡ [] → (length done ≡ 1) × (answer ≡ last_value (reverse done) left)
 one_left nodes b answer all done left h empty =
     ended nodes b answer (reverse done) (length done) left h.todos (subst (λ ys. TodosShow nodes h.todos (reverse ys)) empty h.shown) (subst (λ k. Fits h.todos k) (length-reverse done) h.fits) h.gives
 
@@ -191,7 +192,7 @@ pub to_end : (xs : List Value) (at : ℕ) → take (length xs - at) (drop at xs)
 to_end xs at = ap (λ n. take n (drop at xs)) (sym (length-drop at xs)) ∙ take-length (drop at xs)
 
 -- a call that gave a value
-pub call_gives : (b : Bindings) (w : List ℕ) (k n at left rest : ℕ) (ts : List Todo) (old : List Value) (v : Value) → n ≤ length old → at ≡ length old - n → called k (b w) (drop at old) left ≡ Ok (v, rest)
+pub call_gives : (b : Bindings) (w : List ℕ) (k n at : ℕ) (left rest : State) (ts : List Todo) (old : List Value) (v : Value) → n ≤ length old → at ≡ length old - n → called k (b w) (drop at old) left ≡ Ok (v, rest)
     → perform b (calls w k n ∷ ts) (reverse old) left ≡ perform b ts (v ∷ reverse (take at old)) rest
 call_gives b w k n at left rest ts old v within is gave =
     let off = off_end old n at within is in
@@ -200,7 +201,7 @@ call_gives b w k n at left rest ts old v within is gave =
     ∙ ap (λ vs. perform b ts (v ∷ vs) rest) off.1
 
 -- a call that ended the run
-pub call_ends : (b : Bindings) (w : List ℕ) (k n at left : ℕ) (ts : List Todo) (old : List Value) (stop : Stop) → n ≤ length old → at ≡ length old - n → Ends stop (called k (b w) (drop at old) left)
+pub call_ends : (b : Bindings) (w : List ℕ) (k n at : ℕ) (left : State) (ts : List Todo) (old : List Value) (stop : Stop) → n ≤ length old → at ≡ length old - n → Ends stop (called k (b w) (drop at old) left)
     → Ends stop (perform b (calls w k n ∷ ts) (reverse old) left)
 call_ends b w k n at left ts old stop within is h =
     let off = off_end old n at within is in
@@ -219,6 +220,6 @@ pub given_first : {A B : Type 0} → (a : Result A End) (x : A) (f : A → Resul
 given_first a x f is = ap (λ r. and_then r f) is
 
 -- a step towards an answer is one towards an answer that is the same
-pub steps_of : {A : Type 0} → (r : Result A Stop) (nodes : List Node) (b : Bindings) (x y : Answer) (f : Value × ℕ → Answer) (todo : Vec Task Global) (done : Vec Value Global) (left : ℕ)
+pub steps_of : {A : Type 0} → (r : Result A Stop) (nodes : List Node) (b : Bindings) (x y : Answer) (f : Value × State → Answer) (todo : Vec Task Global) (done : Vec Value Global) (left : State)
     → y ≡ x → Steps r nodes b (and_then x f) todo done left → Steps r nodes b (and_then y f) todo done left
 steps_of r nodes b x y f todo done left same h = subst (λ a. Steps r nodes b (and_then a f) todo done left) (sym same) h

@@ -4,6 +4,7 @@ use Rattle.small_parser.specs.declared.script.NodeId.{NodeId}
 use Rattle.small_parser.specs.declared.script.Node.{Node}
 use Rattle.small_parser.specs.Grammar.{Sum, Listed, single, comma, Passed, unlisted, passed, passed_more, Arguments, none, listed}
 use Rattle.small_parser.specs.Shows.{ListedShows, PassedShow, ArgumentsShow}
+use Rattle.embed_script.specs.declared.state.State.{State}
 use Rattle.embed_script.specs.declared.value.Value.{Value}
 use Rattle.embed_script.specs.Ends.{and_then}
 use Rattle.embed_script.specs.Evaluation.{Bindings, Answer, Answers, sum_value, listed_values, passed_values, arguments_values}
@@ -25,38 +26,38 @@ second : (b : Bindings) (e : Sum) (y : Answers) (u : Value) → before u (behind
 second b e (Ok vs) u = third (sum_value b e vs.1) u vs.0
 second b e (Err end) u = refl
 
-first : (b : Bindings) (e : Sum) (x : Answer) (f g : ℕ → Answers) → ((n : ℕ) → f n ≡ behind b e (g n)) → and_then x (λ v. before v.0 (f v.1)) ≡ behind b e (and_then x (λ v. before v.0 (g v.1)))
+first : (b : Bindings) (e : Sum) (x : Answer) (f g : State → Answers) → ((n : State) → f n ≡ behind b e (g n)) → and_then x (λ v. before v.0 (f v.1)) ≡ behind b e (and_then x (λ v. before v.0 (g v.1)))
 first b e (Ok v) f g h = ap (before v.0) (h v.1) ∙ second b e (g v.1) v.0
 first b e (Err end) f g h = refl
 
-values_more : (b : Bindings) (es : List Sum) (e : Sum) (left : ℕ) → values_of b (es ++ e ∷ []) left ≡ behind b e (values_of b es left)
+values_more : (b : Bindings) (es : List Sum) (e : Sum) (left : State) → values_of b (es ++ e ∷ []) left ≡ behind b e (values_of b es left)
 values_more b [] e left = refl
 values_more b (d ∷ es) e left = first b e (sum_value b d left) (values_of b (es ++ e ∷ [])) (values_of b es) (values_more b es e)
 
-listed_are : (b : Bindings) (l : Listed) (left : ℕ) → values_of b (listed_expressions l) left ≡ listed_values b l left
+listed_are : (b : Bindings) (l : Listed) (left : State) → values_of b (listed_expressions l) left ≡ listed_values b l left
 listed_are b (single e) left = refl
 listed_are b (comma l k e) left = values_more b (listed_expressions l) e left ∙ ap (behind b e) (listed_are b l left)
 
 -- the arguments of a call, and those of `print`
-pub passed_are : (b : Bindings) (a : Passed) (left : ℕ) → values_of b (passed_expressions a) left ≡ passed_values b a left
+pub passed_are : (b : Bindings) (a : Passed) (left : State) → values_of b (passed_expressions a) left ≡ passed_values b a left
 passed_are b unlisted left = refl
 passed_are b (passed l) left = listed_are b l left
 passed_are b (passed_more l k) left = listed_are b l left
 
-pub arguments_are : (b : Bindings) (a : Arguments) (left : ℕ) → values_of b (expressions_of a) left ≡ arguments_values b a left
+pub arguments_are : (b : Bindings) (a : Arguments) (left : State) → values_of b (expressions_of a) left ≡ arguments_values b a left
 arguments_are b none left = refl
 arguments_are b (listed l) left = listed_are b l left
 
-count_second : (y : Answers) (v : Value) (n : ℕ) (x : List Value × ℕ) → ((ws : List Value × ℕ) → y ≡ Ok ws → length ws.0 ≡ n) → before v y ≡ Ok x → length x.0 ≡ suc n
+count_second : (y : Answers) (v : Value) (n : ℕ) (x : List Value × State) → ((ws : List Value × State) → y ≡ Ok ws → length ws.0 ≡ n) → before v y ≡ Ok x → length x.0 ≡ suc n
 count_second (Ok ws) v n x h is = let same : (v ∷ ws.0, ws.1) ≡ x = cc in ap (λ p. length p.0) (sym same) ∙ ap suc (h ws refl)
 count_second (Err e) v n x h is = cc
 
-count_first : (a : Answer) (g : ℕ → Answers) (n : ℕ) (x : List Value × ℕ) → ((left : ℕ) (ws : List Value × ℕ) → g left ≡ Ok ws → length ws.0 ≡ n) → and_then a (λ v. before v.0 (g v.1)) ≡ Ok x → length x.0 ≡ suc n
+count_first : (a : Answer) (g : State → Answers) (n : ℕ) (x : List Value × State) → ((left : State) (ws : List Value × State) → g left ≡ Ok ws → length ws.0 ≡ n) → and_then a (λ v. before v.0 (g v.1)) ≡ Ok x → length x.0 ≡ suc n
 count_first (Ok v) g n x h is = count_second (g v.1) v.0 n x (h v.1) is
 count_first (Err e) g n x h is = cc
 
 -- there are as many values as expressions
-pub values_count : (b : Bindings) (es : List Sum) (left : ℕ) (x : List Value × ℕ) → values_of b es left ≡ Ok x → length x.0 ≡ length es
+pub values_count : (b : Bindings) (es : List Sum) (left : State) (x : List Value × State) → values_of b es left ≡ Ok x → length x.0 ≡ length es
 values_count b [] left x is = let same : ([], left) ≡ x = cc in ap (λ p. length p.0) (sym same)
 values_count b (e ∷ es) left x is = count_first (sum_value b e left) (values_of b es) (length es) x (values_count b es) is
 

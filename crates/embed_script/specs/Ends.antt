@@ -3,6 +3,7 @@ use Rattle.std.specs.Prelude.{ℕ, List, Result, Ok, Err, nat_le, ◌-◌, codes
 use Rattle.embed_base.specs.declared.outside.OutsideKind.{OutsideKind}
 use Rattle.embed_base.specs.declared.outside.Place.TheVariants as places
 use Rattle.embed_base.specs.declared.outside.Outside.{Outside}
+use Rattle.embed_script.specs.declared.state.State.{State}
 
 -- how a run ends: at the script's end; with an exception that nothing catches, by its shown form; with a charge above what
 -- is left of the budget; or with a named refusal
@@ -16,14 +17,21 @@ pub data End : Type 0 where
 abbrev pub compile_error : End
 compile_error = uncaught (codes "CompileError")
 
+-- those of a trap, and of a call or a table past a limit
+abbrev pub runtime_error : End
+runtime_error = uncaught (codes "RuntimeError")
+
+abbrev pub range_error : End
+range_error = uncaught (codes "RangeError")
+
 -- what comes after an answer; an end stays
 abbrev pub and_then : {A B E : Type 0} → Result A E → (A → Result B E) → Result B E
 and_then (Ok x) f = f x
 and_then (Err e) f = Err e
 
--- a charge: what is left of the budget after it; one above what is left ends the run
-abbrev pub charge : (needs left : ℕ) → Result ℕ End
-charge needs left = if nat_le needs left then Ok (left - needs) else Err (past_budget needs left)
+-- a charge: the store, with what is left of the budget after it; one above what is left ends the run
+abbrev pub charge : (needs : ℕ) → State → Result State End
+charge needs s = if nat_le needs s.left then Ok (record s { left = s.left - needs }) else Err (past_budget needs s.left)
 
 -- a refusal at a byte of the script
 abbrev pub refused_at : ℕ → OutsideKind → Outside
@@ -34,6 +42,6 @@ abbrev pub at_place : {A : Type 0} → ℕ → Result A OutsideKind → Result A
 at_place place (Ok v) = Ok v
 at_place place (Err kind) = Err (outside (refused_at place kind))
 
--- an answer that takes nothing of the budget
-abbrev pub keeping : {A : Type 0} → (left : ℕ) → Result A End → Result (A × ℕ) End
-keeping left answer = and_then answer (λ x. Ok (x, left))
+-- an answer that leaves the store and the budget as they are
+abbrev pub keeping : {A : Type 0} → State → Result A End → Result (A × State) End
+keeping s answer = and_then answer (λ x. Ok (x, s))

@@ -1,25 +1,38 @@
 -- The functions that a script gets from module files, and their calls (WebAssembly JavaScript Interface, sections 5.1 to
 -- 5.6, in the profile).
-use Rattle.std.specs.Prelude.{ℕ, zero, suc, List, [], ◌∷◌, Option, Some, None, Result, Ok, Err, length, pos, ◌^◌, nat_lt, ◌&&◌, Bool, slice_get, unsigned_abs, if◌then◌else◌}
+use Rattle.std.specs.Prelude.{ℕ, zero, suc, List, [], ◌∷◌, Option, Some, None, Result, Ok, Err, length, map, pos, ◌^◌, ◌&&◌, Bool, true, false, unsigned_abs, if◌then◌else◌, slice_index_or}
 use Rattle.std.specs.Int.{w32, cast_signed, int_rem_euclid}
+use Rattle.std.specs.List.{list_all}
 use Rattle.std.specs.Str.{bytes_eq}
 use Rattle.embed_base.specs.declared.outside.OutsideKind.{OutsideKind}
 use Rattle.embed_base.specs.declared.outside.OutsideKind.TheVariants as kinds
 use Rattle.embed_base.specs.declared.outside.Place.TheVariants as places
 use Rattle.wasm_syntax.specs.declared.module.Module.{Module}
 use Rattle.wasm_syntax.specs.declared.module.Export.{Export}
-use Rattle.wasm_syntax.specs.declared.module.Func.{Func}
+use Rattle.wasm_syntax.specs.declared.types.ValType.{ValType}
+use Rattle.wasm_syntax.specs.declared.types.ValType.TheVariants as v
 use Rattle.wasm_syntax.specs.declared.types.FuncType.{FuncType}
 use Rattle.wasm_syntax.specs.declared.module.ExportDesc.{ExportDesc}
 use Rattle.wasm_syntax.specs.declared.module.ExportDesc.TheVariants as exports
+use Rattle.wasm_syntax.specs.declared.value.Value.{Value as WasmValue}
+use Rattle.wasm_syntax.specs.declared.value.Value.TheVariants as w
+use Rattle.wasm_syntax.specs.declared.addresses.FuncAddr.{FuncAddr}
+use Rattle.wasm_syntax.specs.declared.addresses.ModuleAddr.{ModuleAddr}
 use Rattle.wasm_grammar.specs.declared.built.Foreign.{Foreign}
 use Rattle.wasm_grammar.specs.declared.built.Foreign.TheVariants as foreign
 use Rattle.wasm_grammar.specs.Decoding as decoding
 use Rattle.wasm_valid.specs.ModuleRules.{is_typed_module}
-use Rattle.small_machine.specs.Small.{is_small_form, small_result}
+use Rattle.wasm_store.specs.declared.instances.Instance.{Instance}
+use Rattle.wasm_store.specs.Store.{Store, blank, with_module, type_of, function_at}
+use Rattle.wasm_store.specs.Whole.{own_type}
+use Rattle.wasm_store.specs.Allocated.{func_addr, instance_of as lists_of}
+use Rattle.wasm_instance.specs.Instantiation.{Outcome, goes, traps, instantiated, is_within_limits, start_of}
+use Rattle.wasm_calls.specs.Calls as calls
+use Rattle.wasm_calls.specs.Calls.{Configuration, running, ended, returned, trapped, thrown, no_rule, end_of}
 use Rattle.embed_script.specs.declared.value.Value.{Value}
 use Rattle.embed_script.specs.declared.value.Value.TheVariants as values
-use Rattle.embed_script.specs.Ends.{End, outside, past_budget, compile_error, and_then, charge, at_place}
+use Rattle.embed_script.specs.declared.state.State.{State}
+use Rattle.embed_script.specs.Ends.{End, outside, past_budget, compile_error, runtime_error, range_error, and_then, charge, at_place}
 
 -- what the bytes of each module file are, by the name that a word gave the file
 abbrev pub Modules : Type 0
@@ -49,11 +62,6 @@ abbrev pub compiled_of : Option decoding.Decoded → Result (Option Module) End
 compiled_of None = Ok None
 compiled_of (Some d) = and_then (module_of d) (λ m. Ok (Some m))
 
--- a function of a module, by its number
-pub record Function : Type 0 where
-  pub owner : Module
-  pub index : ℕ
-
 abbrev pub index_of : ExportDesc → Option ℕ
 index_of (exports.Func index) = Some index
 index_of _ = None
@@ -63,25 +71,83 @@ abbrev pub exported_index : List Export → List ℕ → Option ℕ
 exported_index [] name = None
 exported_index (x ∷ xs) name = if bytes_eq x.name name then index_of x.desc else exported_index xs name
 
--- a module of the small form, and the number of one of its functions
-abbrev pub is_callable : Module → ℕ → Bool
-is_callable m index = is_small_form m && nat_lt index (length m.funcs)
+abbrev pub is_empty : {A : Type 0} → List A → Bool
+is_empty [] = true
+is_empty (x ∷ xs) = false
 
--- the function that is exported by a name
-abbrev pub function_at : Module → Option ℕ → Result Function OutsideKind
-function_at m None = Err kinds.NotYet
-function_at m (Some index) = if is_callable m index then Ok (record { owner = m; index = index }) else Err kinds.NotYet
+-- a module without imports, memories and data segments
+abbrev pub is_self_contained : Module → Bool
+is_self_contained m = is_empty m.imports && is_empty m.mems && is_empty m.datas
 
-abbrev pub exported : Option Module → List ℕ → Result Function OutsideKind
+abbrev pub is_i32 : ValType → Bool
+is_i32 v.I32 = true
+is_i32 v.I64 = false
+is_i32 v.FuncRef = false
+is_i32 v.ExternRef = false
+
+abbrev pub are_i32 : List ValType → Bool
+are_i32 ts = list_all is_i32 ts
+
+abbrev pub is_one_i32 : List ValType → Bool
+is_one_i32 [] = false
+is_one_i32 (t ∷ ts) = is_i32 t && is_empty ts
+
+-- i32 parameters and one i32 result
+abbrev pub is_word_type : FuncType → Bool
+is_word_type g = are_i32 g.params && is_one_i32 g.results
+
+abbrev pub has_word_type : Option FuncType → Bool
+has_word_type (Some g) = is_word_type g
+has_word_type None = false
+
+-- the function that a script may call by a name: a module and a function's number
+abbrev pub offered : Module → Option ℕ → Result (Module × ℕ) OutsideKind
+offered m None = Err kinds.NotYet
+offered m (Some index) = if is_self_contained m && has_word_type (own_type m index) then Ok (m, index) else Err kinds.NotYet
+
+abbrev pub exported : Option Module → List ℕ → Result (Module × ℕ) OutsideKind
 exported None name = Err kinds.NotYet
-exported (Some m) name = function_at m (exported_index m.exports name)
+exported (Some m) name = offered m (exported_index m.exports name)
+
+-- what the end of a call of a function of a module is to a script. A run for which there is no rule, which no valid module has, counts as
+-- a trap.
+abbrev pub settled : Configuration → Result (List WasmValue × State) End
+settled (ended s (returned vs) left) = Ok (vs, record { store = s; left = left })
+settled (ended s (trapped cause) left) = Err runtime_error
+settled (ended s (thrown number) left) = Err range_error
+settled (ended s (calls.past_budget needs) left) = Err (past_budget needs left)
+settled (ended s no_rule left) = Err runtime_error
+settled (running s t left) = Err runtime_error
+
+-- a function of a module runs on these arguments
+abbrev pub run : FuncAddr → List WasmValue → State → Result (List WasmValue × State) End
+run f args s = settled (end_of (calls.call_of s.store f args s.left))
+
+abbrev pub started : Option FuncAddr → State → Result State End
+started None s = Ok s
+started (Some f) s = and_then (run f [] s) (λ r. Ok r.1)
+
+-- once the segments are written the start function runs; the function with this index is then there
+abbrev pub with_segments : Module → Instance → (index left : ℕ) → Outcome → Result (FuncAddr × State) End
+with_segments m i index left (goes s) = and_then (started (start_of m i) (record { store = s; left = left })) (λ r. Ok (slice_index_or i.funcs index (func_addr 0), r))
+with_segments m i index left (traps cause s) = Err runtime_error
+
+abbrev pub next_module : Store → ModuleAddr
+next_module s = record { 0 = length s.modules }
+
+-- a new instance of a module without imports, and its function with this index
+abbrev pub instance_with : Module → (index : ℕ) → State → Result (FuncAddr × State) End
+instance_with m index s =
+    if is_within_limits m
+    then with_segments m (lists_of (next_module s.store) (blank (next_module s.store)) (with_module m s.store)) index s.left (instantiated (next_module s.store) (blank (next_module s.store)) (with_module m s.store))
+    else Err range_error
 
 -- new WebAssembly.Instance(new WebAssembly.Module(readbuffer(FILE))).exports.NAME at its statement's place: the call takes a
 -- charge, then each `new`, and the bytes are read as a module before the second one
-abbrev pub instance_of : Modules → (file name : List ℕ) → (place left : ℕ) → Result (Function × ℕ) End
-instance_of modules file name place left =
-    and_then (charge 1 left) (λ read. and_then (charge 1 read) (λ begun. and_then (compiled_of (decoded_of modules file)) (λ loaded.
-    and_then (charge 1 begun) (λ rest. and_then (at_place place (exported loaded name)) (λ f. Ok (f, rest))))))
+abbrev pub instance_of : Modules → (file name : List ℕ) → (place : ℕ) → State → Result (FuncAddr × State) End
+instance_of modules file name place s =
+    and_then (charge 1 s) (λ read. and_then (charge 1 read) (λ begun. and_then (compiled_of (decoded_of modules file)) (λ loaded.
+    and_then (charge 1 begun) (λ rest. and_then (at_place place (exported loaded name)) (λ f. instance_with f.0 f.1 rest)))))
 
 -- ToInt32 (ECMA-262, section 7.1.6), as the number that its 32 bits spell
 abbrev pub word_of : Value → Result ℕ OutsideKind
@@ -94,27 +160,16 @@ words_of zero vs = Ok []
 words_of (suc n) [] = and_then (words_of n []) (λ ws. Ok (0 ∷ ws))
 words_of (suc n) (v ∷ vs) = and_then (word_of v) (λ w. and_then (words_of n vs) (λ ws. Ok (w ∷ ws)))
 
--- how many parameters a type has, and a function by its type
-abbrev pub type_parameters : Option FuncType → ℕ
-type_parameters (Some t) = length t.params
-type_parameters None = 0
+abbrev pub parameters_of : Store → FuncAddr → ℕ
+parameters_of s f = length (type_of (function_at s f)).params
 
-abbrev pub own_parameters : Module → Option Func → ℕ
-own_parameters m (Some f) = type_parameters (slice_get m.types f.ty)
-own_parameters m None = 0
-
-abbrev pub parameters_of : Function → ℕ
-parameters_of f = own_parameters f.owner (slice_get f.owner.funcs f.index)
-
--- a result, as a signed Number; none is a body that has more instructions than what is left
-abbrev pub result_of : Option (ℕ × ℕ) → Result (Value × ℕ) End
-result_of (Some x) = Ok (values.Number (cast_signed w32 x.0), x.1)
-result_of None = Err (past_budget 1 0)
-
--- what a body gives: each of its instructions takes a charge
-abbrev pub body_value : Function → List ℕ → (left : ℕ) → Result (Value × ℕ) End
-body_value f words left = result_of (small_result f.owner f.index words left)
+-- a result, as a signed Number
+abbrev pub result_value : List WasmValue → Value
+result_value (w.I32 n ∷ vs) = values.Number (cast_signed w32 n)
+result_value _ = values.Number (pos 0)
 
 -- a call of a function with these arguments, at the place of its `(`: its charge, the conversions, and then the body
-abbrev pub call_of : Function → (place : ℕ) → List Value → (left : ℕ) → Result (Value × ℕ) End
-call_of f place vs left = and_then (charge 1 left) (λ rest. and_then (at_place place (words_of (parameters_of f) vs)) (λ words. body_value f words rest))
+abbrev pub call_of : FuncAddr → (place : ℕ) → List Value → State → Result (Value × State) End
+call_of f place vs s =
+    and_then (charge 1 s) (λ rest. and_then (at_place place (words_of (parameters_of rest.store f) vs)) (λ words.
+    and_then (run f (map w.I32 words) rest) (λ r. Ok (result_value r.0, r.1))))

@@ -8,4 +8,5 @@ pub mod ModuleFiles
 pub mod Stops
 pub mod Words
 pub mod Tasks
+pub mod Serving
 pub mod Runs

@@ -12,6 +12,8 @@ use Rattle.small_parser.specs.Grammar.{Sum, Arguments, Instance, Script, nothing
 use Rattle.embed_script.specs.declared.value.Value.{Value}
 use Rattle.embed_script.specs.declared.transcript.Transcript.{Transcript}
 use Rattle.embed_script.specs.Values.{shown_of}
+use Rattle.wasm_store.specs.Store.{empty_store}
+use Rattle.embed_script.specs.declared.state.State.{State}
 use Rattle.embed_script.specs.Ends.{End, done, uncaught, past_budget, outside, charge}
 use Rattle.embed_script.specs.Functions.{Modules, instance_of}
 use Rattle.embed_script.specs.Evaluation.{Binding, value, function, Bindings, sum_value, arguments_values}
@@ -29,10 +31,10 @@ statements_of (declaration s l w n q e c) = statements_of s ++ declares w e ∷ 
 statements_of (binding s l w n q i c) = statements_of s ++ binds l w i ∷ []
 statements_of (printing s p o a c e) = statements_of s ++ prints a ∷ []
 
--- a run between two statements: it goes on with these bindings and what is left of the budget, and has printed these
--- lines; or it has ended
+-- a run between two statements: it goes on with these bindings, this store and what is left of the budget, and has printed
+-- these lines; or it has ended
 pub data Progress : Type 0 where
-  going : Bindings → (left : ℕ) → (lines : List (List ℕ)) → Progress
+  going : Bindings → (left : State) → (lines : List (List ℕ)) → Progress
   ended : (lines : List (List ℕ)) → End → Progress
 
 -- how a run goes on after an answer; an end is the run's
@@ -49,7 +51,7 @@ abbrev pub line_of : List Value → List ℕ
 line_of vs = join_with_byte 32 (map shown_of vs)
 
 -- what a statement does. A call of `print` takes one unit after its arguments and before its line
-abbrev pub effect : Modules → Bindings → (left : ℕ) → List (List ℕ) → Statement → Progress
+abbrev pub effect : Modules → Bindings → (left : State) → List (List ℕ) → Statement → Progress
 effect modules b left lines (declares name e) = after lines (sum_value b e left) (λ v. going (bound b name (value v.0)) v.1 lines)
 effect modules b left lines (binds place name i) = after lines (instance_of modules i.file i.export place left) (λ f. going (bound b name (function f.0)) f.1 lines)
 effect modules b left lines (prints a) = after lines (arguments_values b a left) (λ vs. after lines (charge 1 vs.1) (λ rest. going b rest (lines ++ line_of vs.0 ∷ [])))
@@ -59,9 +61,9 @@ abbrev pub performed : Modules → Progress → Statement → Progress
 performed modules (going b left lines) s = after lines (charge 1 left) (λ rest. effect modules b rest lines s)
 performed modules (ended lines end) s = ended lines end
 
--- the start of a run: no name is bound, and nothing is printed
+-- the start of a run: no name is bound, nothing is in the store, and nothing is printed
 abbrev pub start : (budget : ℕ) → Progress
-start budget = going (λ name. None) budget []
+start budget = going (λ name. None) (record { store = empty_store; left = budget }) []
 
 -- the statements are performed one after the other
 abbrev pub run_of : Modules → (budget : ℕ) → Script → Progress

@@ -38,7 +38,7 @@ HasPrinted lines run = string_bytes run.text ≡ text_of_lines lines
 
 -- a run that goes on stands for the definition's
 abbrev pub Stands : Progress → Run → Type 0
-Stands (going b left lines) run = IsBoundAs b run.names × HasPrinted lines run × (left ≡ run.left)
+Stands (going b left lines) run = IsBoundAs b run.names × HasPrinted lines run × (left ≡ run.state)
 Stands (ended lines end) run = ⊥
 
 -- a run that ended so

@@ -8,7 +8,6 @@ use Rattle.std.specs.declared.vec.Vec.{Vec}
 use Rattle.std.specs.declared.hash.FoldHasher.{FoldHasher}
 use Rattle.std.specs.declared.hash.BuildHasherDefault.{BuildHasherDefault}
 use Rattle.std.specs.HashMap.{HashMap, get_by_text}
-use Rattle.embed_base.specs.declared.outside.OutsideKind.{OutsideKind}
 use Rattle.embed_base.specs.declared.outside.OutsideKind.TheVariants as kinds
 use Rattle.small_parser.specs.declared.script.NodeId.{NodeId}
 use Rattle.small_parser.specs.declared.script.Operator.{Operator}
@@ -24,31 +23,17 @@ use Rattle.embed_script.specs.declared.evaluate.Task.{Task}
 use Rattle.embed_script.specs.declared.evaluate.Task.TheVariants as tasks
 use Rattle.embed_script.specs.declared.value.Bound.{Bound}
 use Rattle.embed_script.specs.declared.value.Bound.TheVariants as bounds
-use Rattle.embed_script.specs.declared.functions.Exported.{Exported}
+use Rattle.embed_script.specs.declared.state.State.{State}
 use Rattle.embed_script.specs.Ends.{outside, and_then, refused_at}
-use Rattle.embed_script.specs.Functions.{Function}
 use Rattle.embed_script.specs.Evaluation.{Binding, value, function, Bindings, Answer, Answers, sum_value, operated, called}
 use Rattle.embed_script.specs.Stops.{Ends}
 
 abbrev pub Names : Type 0
 Names = HashMap (String Global) Bound (BuildHasherDefault FoldHasher)
 
--- a function of a module, without the facts that go with it
-abbrev pub function_of : Exported → Function
-function_of e = record { owner = e.owner; index = e.index }
-
--- a function with what is left
-abbrev pub instance_in : Exported × ℕ → Function × ℕ
-instance_in x = (function_of x.0, x.1)
-
--- a function that is there, or none
-abbrev pub OffersFunction : Option Exported → Result Function OutsideKind → Type 0
-OffersFunction (Some e) answer = answer ≡ Ok (function_of e)
-OffersFunction None answer = answer ≡ Err kinds.NotYet
-
 abbrev pub binding_of : Bound → Binding
 binding_of (bounds.Value v) = value v
-binding_of (bounds.Function f) = function (function_of f)
+binding_of (bounds.Function f) = function f
 
 -- the map has what each name is bound to
 abbrev pub IsBoundAs : Bindings → Names → Type 0
@@ -62,17 +47,17 @@ pub data Todo : Type 0 where
   calls : (callee : List ℕ) → (place : ℕ) → (count : ℕ) → Todo
 
 -- an operator on the last two values
-abbrev pub applied : Operator → ℕ → List Value → ℕ → (List Value → ℕ → Answer) → Answer
+abbrev pub applied : Operator → ℕ → List Value → State → (List Value → State → Answer) → Answer
 applied o k (w ∷ v ∷ vs) left goes_on = and_then (operated o k v w left) (λ u. goes_on (u.0 ∷ vs) u.1)
 applied o k vs left goes_on = Err (outside (refused_at k kinds.NotYet))
 
 -- the last value, where nothing is left to do
-abbrev pub last_value : List Value → ℕ → Answer
+abbrev pub last_value : List Value → State → Answer
 last_value (v ∷ vs) left = Ok (v, left)
 last_value [] left = Err (outside (refused_at 0 kinds.NotYet))
 
 -- what the tasks give over these values
-abbrev pub perform : Bindings → List Todo → List Value → ℕ → Answer
+abbrev pub perform : Bindings → List Todo → List Value → State → Answer
 perform b [] vs left = last_value vs left
 perform b (evaluates e ∷ ts) vs left = and_then (sum_value b e left) (λ v. perform b ts (v.0 ∷ vs) v.1)
 perform b (applies o k ∷ ts) vs left = applied o k vs left (perform b ts)
@@ -113,7 +98,7 @@ SumsShow nodes (e ∷ es) (id ∷ ids) = SumShows e nodes id.0 × SumsShow nodes
 SumsShow nodes _ _ = ⊥
 
 -- the values of expressions, one after the other
-abbrev pub values_of : Bindings → List Sum → ℕ → Answers
+abbrev pub values_of : Bindings → List Sum → State → Answers
 values_of b [] left = Ok ([], left)
 values_of b (e ∷ es) left = and_then (sum_value b e left) (λ v. and_then (values_of b es v.1) (λ vs. Ok (v.0 ∷ vs.0, vs.1)))
 
@@ -169,13 +154,13 @@ abbrev pub tasks_size : List Node → List Task → ℕ
 tasks_size nodes xs = sum_by (task_size nodes) xs
 
 -- what is left to do after a step, and what it gives
-pub record Continues (nodes : List Node) (b : Bindings) (answer : Answer) (xs : List Task) (vs : List Value) (left : ℕ) : Type 0 where
+pub record Continues (nodes : List Node) (b : Bindings) (answer : Answer) (xs : List Task) (vs : List Value) (left : State) : Type 0 where
   pub todos : List Todo
   pub shown : TodosShow nodes todos xs
   pub fits : Fits todos (length vs)
   pub gives : answer ≡ perform b todos vs left
 
 -- a step that went on, with what is left; or stopped with the answer's end; or for want of memory
-abbrev pub Steps : {A : Type 0} → Result A Stop → List Node → Bindings → Answer → Vec Task Global → Vec Value Global → ℕ → Type 0
+abbrev pub Steps : {A : Type 0} → Result A Stop → List Node → Bindings → Answer → Vec Task Global → Vec Value Global → State → Type 0
 Steps (Ok _) nodes b answer todo done left = Continues nodes b answer (top_first todo) (top_first done) left
 Steps (Err stop) nodes b answer todo done left = Ends stop answer

@@ -3,6 +3,7 @@ use Rattle.std.specs.Prelude.{ℕ, List, Option, Some, None, Result, Ok}
 use Rattle.std.specs.declared.alloc.Global.{Global}
 use Rattle.std.specs.declared.vec.Vec.{Vec}
 use Rattle.embed_base.specs.declared.outside.OutsideKind.{OutsideKind}
+use Rattle.wasm_syntax.specs.declared.value.Value.{Value as WasmValue}
 use Rattle.embed_script.specs.declared.value.Value.{Value}
 use Rattle.embed_script.specs.Functions.{word_of}
 
@@ -13,3 +14,6 @@ argument_of None = Ok 0
 
 abbrev pub words_in : Vec ℕ Global → List ℕ
 words_in v = v.items
+
+abbrev pub results_in : Vec WasmValue Global → List WasmValue
+results_in v = v.items

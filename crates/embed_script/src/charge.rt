@@ -1,6 +1,8 @@
+ghost use Rattle.std.specs.Prelude.{◌≡◌};
 ghost use Rattle.embed_script.specs.Ends.{charge};
-ghost use Rattle.embed_script.specs.Stops.{Meets};
+ghost use Rattle.embed_script.specs.Stops.{Leaves};
 
+use crate::state::State;
 use crate::stop::Stop;
 
 /// The charge of a statement that is begun.
@@ -10,11 +12,16 @@ pub(crate) const STATEMENT: u64 = 1;
 pub(crate) const CALL: u64 = 1;
 
 /// Takes a charge of what is left of the budget, unless it is above that.
-pub(crate) fn charge(needs: u64, left: u64) -> Result<u64, Stop>
-    ensures { Meets result (charge needs left) }
+pub(crate) fn charge(needs: u64, state: &mut State) -> Result<(), Stop>
+    ensures meets { Leaves result state.new (charge needs state.old) }
+    ensures store { state.new.store ≡ state.old.store }
 {
-    if needs > left {
-        return Err(Stop::Budget { needs, left });
+    if needs > state.left {
+        return Err(Stop::Budget {
+            needs,
+            left: state.left,
+        });
     }
-    Ok(left - needs)
+    state.left -= needs;
+    Ok(())
 }

@@ -1,5 +1,5 @@
 ghost use Rattle.std.specs.Prelude.{◌≡◌, ◌++◌, OnOk, string_bytes};
-ghost use Rattle.embed_script.specs.Ends.{outside, past_budget, compile_error};
+ghost use Rattle.embed_script.specs.Ends.{outside, past_budget, uncaught};
 ghost use Rattle.embed_script.specs.Outcome.{end_line, place_text};
 
 use embed_base::{Outside, Place};
@@ -27,11 +27,14 @@ pub(crate) fn add_refusal(text: &mut String, refusal: Outside) -> Result<(), All
     Ok(())
 }
 
-/// Adds the line that tells that bytes are no valid module.
-pub(crate) fn add_compile_error(text: &mut String) -> Result<(), AllocError>
-    ensures { OnOk result (string_bytes text.new ≡ string_bytes text.old ++ end_line compile_error) }
+/// Adds the line that tells an exception that nothing catches, by its shown form.
+pub(crate) fn add_exception(text: &mut String, shown: &str) -> Result<(), AllocError>
+    ensures { OnOk result (string_bytes text.new ≡ string_bytes text.old ++ end_line (uncaught shown.now)) }
 {
-    text.push_str("uncaught: CompileError\n")
+    text.push_str("uncaught: ")?;
+    text.push_str(shown)?;
+    text.push_str("\n")?;
+    Ok(())
 }
 
 /// Adds the line that tells a charge above what was left of the budget.

@@ -10,6 +10,7 @@ mod instances;
 mod module_file;
 mod operators;
 mod run;
+mod state;
 mod stop;
 mod transcript;
 mod value;

@@ -5,16 +5,18 @@ ghost use Rattle.embed_script.specs.Ends.{done, charge};
 ghost use Rattle.embed_script.specs.Functions.{Modules, instance_of};
 ghost use Rattle.embed_script.specs.Evaluation.{Bindings, value, function, sum_value};
 ghost use Rattle.embed_script.specs.Outcome.{Statement, going, after, bound, effect, performed, line_of, outcome_of, outcome_of_progress, transcript_of, Progress, IsRunEnd};
-ghost use Rattle.embed_script.specs.Stops.{MeetsAs, listed_values_of};
+ghost use Rattle.embed_script.specs.Serving.{Serves};
+ghost use Rattle.embed_script.specs.Stops.{MeetsInAs, listed_values_of};
 ghost use Rattle.embed_script.specs.Tasks.{IsBoundAs, SumsShow, values_of};
 ghost use Rattle.embed_script.specs.ModuleFiles.{AreDecodings};
 ghost use Rattle.embed_script.specs.Runs.{StatementShows, HasPrinted, Performs};
 
 use crate::charge::{CALL, STATEMENT, charge};
-use crate::end_line::{add_charge, add_compile_error, add_refusal};
+use crate::end_line::{add_charge, add_exception, add_refusal};
 use crate::evaluate::{Names, evaluate};
 use crate::instances::instance;
 use crate::module_file::ModuleFile;
+use crate::state::State;
 use crate::stop::Stop;
 use crate::transcript::Transcript;
 use crate::value::{Bound, Value};
@@ -22,26 +24,28 @@ use embed_base::{PlainString, Status};
 use small_parser::{Form, Node, NodeId, Script};
 use std::alloc::{AllocError, Global};
 use std::collections::HashMap;
+use wasm_store::Store;
+use wasm_store::laws::types_stay;
 
-/// The values of expressions, from left to right, and what they leave of the budget.
+/// The values of expressions, from left to right.
 fn evaluate_all(
     alloc: Global,
     nodes: &[Node],
     names: &Names,
-    budget: u64,
     ids: &[NodeId],
-) -> Result<(Vec<Value>, u64), Stop>
-    requires { (es : List grammar.Sum) × SumsShow nodes.now es ids.now }
-    ensures { (b : Bindings) → IsBoundAs b names.now → (es : List grammar.Sum) → SumsShow nodes.now es ids.now → MeetsAs listed_values_of result (values_of b es budget) }
+    state: &mut State,
+) -> Result<Vec<Value>, Stop>
+    requires serves { Serves names.now state.old.store }
+    requires shows { (es : List grammar.Sum) × SumsShow nodes.now es ids.now }
+    ensures meets { (b : Bindings) → IsBoundAs b names.now → (es : List grammar.Sum) → SumsShow nodes.now es ids.now → MeetsInAs listed_values_of result state.new (values_of b es state.old) }
+    ensures serves { Serves names.now state.new.store }
 {
     let mut values = Vec::new(alloc);
-    let mut left = budget;
     for id in ids {
-        let (value, rest) = evaluate(alloc, nodes, names, left, *id)?;
+        let value = evaluate(alloc, nodes, names, *id, state)?;
         values.push(value)?;
-        left = rest;
     }
-    Ok((values, left))
+    Ok(values)
 }
 
 /// Adds a line: the shown forms, with one space between two of them.
@@ -58,11 +62,11 @@ fn add_line(text: &mut String, values: &[Value]) -> Result<(), AllocError>
     Ok(())
 }
 
-/// A run at work: what names are bound to, what is left of the budget, and the lines printed so far.
+/// A run at work: what names are bound to, the store and what is left of the budget, and the lines printed so far.
 #[derive(Drop)]
 struct Run {
     names: Names,
-    left: u64,
+    state: State,
     text: String,
 }
 
@@ -75,13 +79,14 @@ impl Run {
         name: &PlainString,
         initial: NodeId,
     ) -> Result<(), Stop>
-        requires { (e : grammar.Sum) × SumShows e nodes.now initial.0 }
-        ensures { (b : Bindings) (lines : List (List ℕ)) → IsBoundAs b self.old.names → HasPrinted lines self.old → (e : grammar.Sum) → SumShows e nodes.now initial.0 → Performs result (after lines (sum_value b e self.old.left) (λ v. going (bound b name.now (value v.0)) v.1 lines)) self.new }
+        requires serves { Serves self.old.names self.old.state.store }
+        requires shows { (e : grammar.Sum) × SumShows e nodes.now initial.0 }
+        ensures performs { (b : Bindings) (lines : List (List ℕ)) → IsBoundAs b self.old.names → HasPrinted lines self.old → (e : grammar.Sum) → SumShows e nodes.now initial.0 → Performs result (after lines (sum_value b e self.old.state) (λ v. going (bound b name.now (value v.0)) v.1 lines)) self.new }
+        ensures serves { OnOk result (Serves self.new.names self.new.state.store) }
     {
-        let (value, left) = evaluate(alloc, nodes, &self.names, self.left, initial)?;
+        let value = evaluate(alloc, nodes, &self.names, initial, &mut self.state)?;
         let name = String::from_str(alloc, name.as_str())?;
         self.names.insert(name, Bound::Value(value))?;
-        self.left = left;
         Ok(())
     }
 
@@ -95,30 +100,33 @@ impl Run {
         export: &PlainString,
         place: u32,
     ) -> Result<(), Stop>
-        ensures { (modules : Modules) → AreDecodings files.now modules → (b : Bindings) (lines : List (List ℕ)) → IsBoundAs b self.old.names → HasPrinted lines self.old → Performs result (after lines (instance_of modules file.now export.now place self.old.left) (λ f. going (bound b name.now (function f.0)) f.1 lines)) self.new }
+        requires { Serves self.old.names self.old.state.store }
+        ensures performs { (modules : Modules) → AreDecodings files.now modules → (b : Bindings) (lines : List (List ℕ)) → IsBoundAs b self.old.names → HasPrinted lines self.old → Performs result (after lines (instance_of modules file.now export.now place self.old.state) (λ f. going (bound b name.now (function f.0)) f.1 lines)) self.new }
+        ensures serves { OnOk result (Serves self.new.names self.new.state.store) }
     {
-        let (function, left) = instance(
+        types_stay();
+        let function = instance(
             alloc,
             files,
             file.as_str(),
             export.as_str(),
             place,
-            self.left,
+            &mut self.state,
         )?;
         let name = String::from_str(alloc, name.as_str())?;
         self.names.insert(name, Bound::Function(function))?;
-        self.left = left;
         Ok(())
     }
 
     /// Prints a line, after its charge.
     fn print_line(&mut self, values: &[Value]) -> Result<(), Stop>
-        ensures { (b : Bindings) (lines : List (List ℕ)) → IsBoundAs b self.old.names → HasPrinted lines self.old → Performs result (after lines (charge 1 self.old.left) (λ rest. going b rest (lines ++ line_of values.now ∷ []))) self.new }
+        requires { Serves self.old.names self.old.state.store }
+        ensures performs { (b : Bindings) (lines : List (List ℕ)) → IsBoundAs b self.old.names → HasPrinted lines self.old → Performs result (after lines (charge 1 self.old.state) (λ rest. going b rest (lines ++ line_of values.now ∷ []))) self.new }
+        ensures serves { OnOk result (Serves self.new.names self.new.state.store) }
     {
-        match charge(CALL, self.left) {
-            Ok(left) => {
+        match charge(CALL, &mut self.state) {
+            Ok(()) => {
                 add_line(&mut self.text, values)?;
-                self.left = left;
                 Ok(())
             }
             Err(stop) => Err(stop),
@@ -127,11 +135,12 @@ impl Run {
 
     /// `print(ARGUMENTS);`
     fn print(&mut self, alloc: Global, nodes: &[Node], arguments: &[NodeId]) -> Result<(), Stop>
-        requires { (es : List grammar.Sum) × SumsShow nodes.now es arguments.now }
-        ensures { (b : Bindings) (lines : List (List ℕ)) → IsBoundAs b self.old.names → HasPrinted lines self.old → (es : List grammar.Sum) → SumsShow nodes.now es arguments.now → Performs result (after lines (values_of b es self.old.left) (λ vs. after lines (charge 1 vs.1) (λ rest. going b rest (lines ++ line_of vs.0 ∷ [])))) self.new }
+        requires serves { Serves self.old.names self.old.state.store }
+        requires shows { (es : List grammar.Sum) × SumsShow nodes.now es arguments.now }
+        ensures performs { (b : Bindings) (lines : List (List ℕ)) → IsBoundAs b self.old.names → HasPrinted lines self.old → (es : List grammar.Sum) → SumsShow nodes.now es arguments.now → Performs result (after lines (values_of b es self.old.state) (λ vs. after lines (charge 1 vs.1) (λ rest. going b rest (lines ++ line_of vs.0 ∷ [])))) self.new }
+        ensures serves { OnOk result (Serves self.new.names self.new.state.store) }
     {
-        let (values, left) = evaluate_all(alloc, nodes, &self.names, self.left, arguments)?;
-        self.left = left;
+        let values = evaluate_all(alloc, nodes, &self.names, arguments, &mut self.state)?;
         self.print_line(values.as_slice())
     }
 
@@ -143,8 +152,10 @@ impl Run {
         files: &[ModuleFile],
         id: NodeId,
     ) -> Result<(), Stop>
-        requires { (s : Statement) × StatementShows nodes.now s id }
-        ensures { (modules : Modules) → AreDecodings files.now modules → (b : Bindings) (lines : List (List ℕ)) → IsBoundAs b self.old.names → HasPrinted lines self.old → (s : Statement) → StatementShows nodes.now s id → Performs result (effect modules b self.old.left lines s) self.new }
+        requires serves { Serves self.old.names self.old.state.store }
+        requires shows { (s : Statement) × StatementShows nodes.now s id }
+        ensures performs { (modules : Modules) → AreDecodings files.now modules → (b : Bindings) (lines : List (List ℕ)) → IsBoundAs b self.old.names → HasPrinted lines self.old → (s : Statement) → StatementShows nodes.now s id → Performs result (effect modules b self.old.state lines s) self.new }
+        ensures serves { OnOk result (Serves self.new.names self.new.state.store) }
     {
         let node = &nodes[id.0];
         match &node.form {
@@ -166,16 +177,26 @@ impl Run {
         files: &[ModuleFile],
         id: NodeId,
     ) -> Result<(), Stop>
-        requires { (s : Statement) × StatementShows nodes.now s id }
-        ensures { (modules : Modules) → AreDecodings files.now modules → (b : Bindings) (lines : List (List ℕ)) → IsBoundAs b self.old.names → HasPrinted lines self.old → (s : Statement) → StatementShows nodes.now s id → Performs result (performed modules (going b self.old.left lines) s) self.new }
+        requires serves { Serves self.old.names self.old.state.store }
+        requires shows { (s : Statement) × StatementShows nodes.now s id }
+        ensures performs { (modules : Modules) → AreDecodings files.now modules → (b : Bindings) (lines : List (List ℕ)) → IsBoundAs b self.old.names → HasPrinted lines self.old → (s : Statement) → StatementShows nodes.now s id → Performs result (performed modules (going b self.old.state lines) s) self.new }
+        ensures serves { OnOk result (Serves self.new.names self.new.state.store) }
     {
-        match charge(STATEMENT, self.left) {
-            Ok(left) => {
-                self.left = left;
-                self.effect(alloc, nodes, files, id)
-            }
+        match charge(STATEMENT, &mut self.state) {
+            Ok(()) => self.effect(alloc, nodes, files, id),
             Err(stop) => Err(stop),
         }
+    }
+}
+
+/// The transcript of a run that ended with an exception.
+fn uncaught(text: String) -> Transcript
+    ensures text { result.text ≡ string_bytes text }
+    ensures status { result.status ≡ Status.Uncaught }
+{
+    Transcript {
+        status: Status::Uncaught,
+        text: PlainString::from_string(text),
     }
 }
 
@@ -187,17 +208,22 @@ impl Run {
     {
         let Run {
             names: _,
-            left: _,
+            state: _,
             mut text,
         } = self;
         match stop {
             Stop::NoMemory => Err(AllocError),
             Stop::CompileError => {
-                add_compile_error(&mut text)?;
-                Ok(Transcript {
-                    status: Status::Uncaught,
-                    text: PlainString::from_string(text),
-                })
+                add_exception(&mut text, "CompileError")?;
+                Ok(uncaught(text))
+            }
+            Stop::RuntimeError => {
+                add_exception(&mut text, "RuntimeError")?;
+                Ok(uncaught(text))
+            }
+            Stop::RangeError => {
+                add_exception(&mut text, "RangeError")?;
+                Ok(uncaught(text))
             }
             Stop::Outside(refusal) => {
                 add_refusal(&mut text, refusal)?;
@@ -223,7 +249,7 @@ impl Run {
     {
         let Run {
             names: _,
-            left: _,
+            state: _,
             text,
         } = self;
         Transcript {
@@ -247,7 +273,10 @@ fn perform_all(
 {
     let mut run = Run {
         names: HashMap::new(alloc),
-        left: budget,
+        state: State {
+            store: Store::new(alloc),
+            left: budget,
+        },
         text: String::new(alloc),
     };
     for id in ids {

@@ -10,6 +10,10 @@ pub(crate) enum Stop {
     Outside(Outside),
     /// An exception that nothing catches: bytes that are no valid module.
     CompileError,
+    /// One of a trap.
+    RuntimeError,
+    /// One of a call or a table past a limit.
+    RangeError,
     /// A charge above what is left of the budget.
     Budget { needs: u64, left: u64 },
     NoMemory,

@@ -1,15 +1,15 @@
 ghost use Rattle.std.specs.Prelude.{◌≡◌, ◌++◌, OnOk, string_bytes};
 ghost use Rattle.embed_script.specs.Values.{shown_of};
 
-use crate::functions::Exported;
 use embed_base::SharedString;
 use std::alloc::AllocError;
+use wasm_syntax::FuncAddr;
 
 /// What a name is bound to.
 #[derive(Debug, Drop)]
 pub(crate) enum Bound {
     Value(Value),
-    Function(Exported),
+    Function(FuncAddr),
 }
 
 /// A value of a script. A text's bytes are shared by its copies.

@@ -13,6 +13,7 @@ use Rattle.wasm_machine.specs.Terms.{FrameState, label, frame, Term, here, trap,
 use Rattle.wasm_machine.specs.Performing.{Performed}
 use Rattle.wasm_machine.specs.Reduction.{goes, branches, returns, act, acted, topmost, rewrites, gives, leaves, traps, stuck, gives_some, breaks_from, in_level, next_in, reduce, of_performed}
 use Rattle.wasm_machine.specs.View.{View, Open, with_values, with_locals, advanced, rest_of, code_at, next_code, level_of, close, state_of, frame_level, term_round, left, resumed, with_labels, branched, arity_in, IsLinked}
+use Rattle.wasm_machine.specs.Charges.{charge_in, charge_of}
 use Rattle.wasm_machine.specs.Steps.{EndsIn, TrapsIn, term_before, Performs}
 
 pub topmost_is : (n : ℕ) (vs : List Value) → n ≤ length vs → topmost n vs ≡ Some (take n vs)
@@ -60,11 +61,19 @@ module _ (s : Store) (m : Module) where
   pub trap_leaves : (v : View) (cause : Trap) (F : FrameState) → reduce s F (term_round m v (trap cause)) ≡ rewrites s F (trap cause)
   trap_leaves v cause F = ap (in_level s F (frame_level v)) (traps_out (state_of v) (v.top ∷ v.outer) (trap cause) cause refl)
 
+  -- a form that takes nothing of the budget takes nothing under these labels
+  charge_out : (os : List Open) (t : Term) → ((vs : List Value) (is : List Instr) → charge_in vs is t ≡ 0) → (vs : List Value) (is : List Instr) → charge_in vs is (close m os t) ≡ 0
+  charge_out [] t h = h
+  charge_out (o ∷ os) t h = charge_out os (inside (level_of m o) t) (λ vs is. h o.values (code_at m o))
+
+  trap_free : (v : View) (cause : Trap) → charge_of (term_round m v (trap cause)) ≡ 0
+  trap_free v cause = charge_out (v.top ∷ v.outer) (trap cause) (λ vs is. refl) [] []
+
   -- an instruction that traps
   pub before_traps : (v : View) (i : Instr) (locals vs : List Value) (cause : Trap) → act s (state_of v) i v.top.values ≡ goes s locals vs (trap cause)
       → (F : FrameState) → TrapsIn s F (term_before m i v) cause
   before_traps v i locals vs cause a F =
-      (term_round m (with_locals locals (with_values vs v)) (trap cause), before_goes v i s locals vs (trap cause) a F, trap_leaves (with_locals locals (with_values vs v)) cause F)
+      (term_round m (with_locals locals (with_values vs v)) (trap cause), before_goes v i s locals vs (trap cause) a F, trap_free (with_locals locals (with_values vs v)) cause, trap_leaves (with_locals locals (with_values vs v)) cause F)
 
   -- the term of a frame whose next instruction was fetched
   pub before_is : (v : View) (i : Instr) → rest_of m v ≡ i ∷ rest_of m (advanced v) → term_round m v here ≡ term_before m i (advanced v)
@@ -108,7 +117,7 @@ module _ (s : Store) (m : Module) where
       let a : reduce s F (term_round m v here) ≡ rewrites s F (finished v (v.top.values ++ [])) =
       subst (λ xs. reduce s F (term_round m (with_labels v.top xs v) here) ≡ rewrites s F (finished v (v.top.values ++ []))) (sym e) (end_to v r F) in
       let b : finished v (v.top.values ++ []) ≡ finished v (reverse values) = ap (finished v) (append-nil v.top.values ∙ all) in
-      inr (finished v (reverse values), a ∙ ap (rewrites s F) b, finished_gives v (reverse values) (ap length (sym all) ∙ n) F)
+      inr (finished v (reverse values), a ∙ ap (rewrites s F) b, refl, finished_gives v (reverse values) (ap length (sym all) ∙ n) F)
 
   -- a branch out of a label that stands in a list of another label, found outward from the innermost one, whose form breaks
   breaks_out_of : (F : FrameState) (vs : List Value) (l : ℕ) (o : Open) (os : List Open) (v : View) (t : Term)
@@ -168,4 +177,4 @@ module _ (s : Store) (m : Module) where
       let e : reduce s (state_of v) (inside (record { kind = d; values = ws; rest = i ∷ rest_of m v }) here) ≡ breaks_from d (length v.outer) v.top.values = ap (acted d (state_of v) (rest_of m v)) a' in
       let x = ap (in_level s F (frame_level v)) (gives_out (state_of v) v.top.values v.top v.outer _ e (omega (arith, n, le)) h) in
       let y : finished v (take (arity_in (length v.outer) v.top v.outer) v.top.values ++ []) ≡ finished v (reverse values) = ap (finished v) (append-nil (take (arity_in (length v.outer) v.top v.outer) v.top.values) ∙ ap (λ k. take k v.top.values) n ∙ sym g) in
-      inr (finished v (reverse values), x ∙ ap (rewrites s F) y, finished_gives v (reverse values) (ap length g ∙ take_long v.results v.top.values le) F)
+      inr (finished v (reverse values), x ∙ ap (rewrites s F) y, refl, finished_gives v (reverse values) (ap length g ∙ take_long v.results v.top.values le) F)

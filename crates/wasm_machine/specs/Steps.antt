@@ -13,16 +13,17 @@ use Rattle.wasm_machine.specs.declared.frame.Effect.{Effect}
 use Rattle.wasm_machine.specs.declared.frame.Effect.TheVariants.{Went, Call, Returned, Trapped, Grew}
 use Rattle.wasm_machine.specs.Terms.{FrameState, label, Term, here, invoke, trap, inside}
 use Rattle.wasm_machine.specs.Reduction.{branches, act, rewrites, gives, reduce}
+use Rattle.wasm_machine.specs.Charges.{charge_of}
 use Rattle.wasm_machine.specs.Performing.{Performed, performs}
 use Rattle.wasm_machine.specs.View.{View, frame_level, close, next_code, rest_of, state_of, module_for, term_round, term_of, with_values, with_locals}
 
--- in one rewriting, or in one more, the term becomes these values, the topmost first
+-- in one rewriting, or in one more that takes nothing of the budget, the term becomes these values, the topmost first
 abbrev pub EndsIn : Store → FrameState → Term → List Value → Type 0
-EndsIn s F t vs = (reduce s F t ≡ gives vs []) ⊎ ((u : Term) × (reduce s F t ≡ rewrites s F u) × (reduce s F u ≡ gives vs []))
+EndsIn s F t vs = (reduce s F t ≡ gives vs []) ⊎ ((u : Term) × (reduce s F t ≡ rewrites s F u) × (charge_of u ≡ 0) × (reduce s F u ≡ gives vs []))
 
--- after one rewriting a trap is at work in the term, which the next one leaves
+-- after one rewriting a trap is at work in the term, which the next one leaves and which takes nothing of the budget
 abbrev pub TrapsIn : Store → FrameState → Term → Trap → Type 0
-TrapsIn s F t cause = (u : Term) × (reduce s F t ≡ rewrites s F u) × (reduce s F u ≡ rewrites s F (trap cause))
+TrapsIn s F t cause = (u : Term) × (reduce s F t ≡ rewrites s F u) × (charge_of u ≡ 0) × (reduce s F u ≡ rewrites s F (trap cause))
 
 -- What a step in the store s makes of a term t: with every effect but `Went` the redex, values or trap that it names is then at work. F
 -- is the state of the frame round it, if any. No memory grows yet.

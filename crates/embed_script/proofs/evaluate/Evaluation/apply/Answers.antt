@@ -8,7 +8,7 @@ use Rattle.embed_script.proofs.Steps.{two_on_top}
 use Rattle.embed_script.proofs.evaluate.Evaluation.apply.Goals as goal
 
 pub returns-clause-steps : goal.returns-clause-steps
-returns-clause-steps c = λ nodes b ts todos fits.
+returns-clause-steps c = λ nodes b state ts todos fits.
     let old = c.args.self.now.values.items in
     let mid = c.pop.new.self.items in
     let rest = c.pop-2.new.self.items in
@@ -18,6 +18,6 @@ returns-clause-steps c = λ nodes b ts todos fits.
     let second : mid ≡ rest ++ left ∷ [] = c.pop-2.ensures.items ∙ ap (λ o. rest ++ option_to_list o) c.unwrap-left.ensures in
     let long : length old ≡ suc (suc (length rest)) = omega (arith, ap length first, ap length second, length-append mid (right ∷ []), length-append rest (left ∷ [])) in
     let enough = subst (Fits (applies c.args.operator c.args.place ∷ ts)) long fits in
-    subst (λ vs. Steps c.give.result nodes b (applied c.args.operator c.args.place vs c.args.self.now.left (perform b ts)) c.give.new.self.tasks c.give.new.self.values c.give.new.self.left)
+    subst (λ vs. Steps c.give.result nodes b (applied c.args.operator c.args.place vs state (perform b ts)) c.give.new.self.tasks c.give.new.self.values state)
     (sym (two_on_top old mid rest left right first second))
-    (c.give.ensures.steps nodes b (at_place c.args.place (operate c.args.operator left right)) ts c.operate.ensures todos enough)
+    (c.give.ensures.steps nodes b state (at_place c.args.place (operate c.args.operator left right)) ts c.operate.ensures todos enough)

@@ -28,8 +28,8 @@ unreachable-requires c =
     ]
 
 pub returns-in_ok-push_chain-in-Chain-clause-steps : goal.returns-in_ok-push_chain-in-Chain-clause-steps
-returns-in_ok-push_chain-in-Chain-clause-steps c = λ b bound e shows ts todos fits.
-    unrolled_step c.args.nodes.now b e ts (chain_tasks c.in-Chain.left c.in-Chain.last) (top_first c.args.self.now.tasks) (top_first c.push_chain.new.tasks) (top_first c.args.self.now.values) (length c.args.self.now.values.items) c.args.self.now.left
+returns-in_ok-push_chain-in-Chain-clause-steps c = λ b left bound e shows ts todos fits.
+    unrolled_step c.args.nodes.now b e ts (chain_tasks c.in-Chain.left c.in-Chain.last) (top_first c.args.self.now.tasks) (top_first c.push_chain.new.tasks) (top_first c.args.self.now.values) (length c.args.self.now.values.items) left
     (read_form b e c.args.nodes.now c.args.id.0 c.index-nodes-id.result _ shows c.index-nodes-id.is c.in-Chain.is).tasks todos fits (sym (length-reverse c.args.self.now.values.items))
     (c.in_ok-push_chain-in-Chain.ensures ∙ ap (λ l. chain_tasks l c.in-Chain.last ++ top_first c.args.self.now.tasks) c.as_slice.ensures)
 
@@ -41,8 +41,8 @@ returns-in_ok-push_chain-in-Chain-clause-smaller c =
     (c.in_ok-push_chain-in-Chain.ensures ∙ ap (λ l. chain_tasks l c.in-Chain.last ++ top_first c.args.self.now.tasks) c.as_slice.ensures)
 
 pub returns-in_ok-push_call-in-Call-clause-steps : goal.returns-in_ok-push_call-in-Call-clause-steps
-returns-in_ok-push_call-in-Call-clause-steps c = λ b bound e shows ts todos fits.
-    unrolled_step c.args.nodes.now b e ts (call_tasks c.in-Call.arguments c.args.id) (top_first c.args.self.now.tasks) (top_first c.push_call.new.tasks) (top_first c.args.self.now.values) (length c.args.self.now.values.items) c.args.self.now.left
+returns-in_ok-push_call-in-Call-clause-steps c = λ b left bound e shows ts todos fits.
+    unrolled_step c.args.nodes.now b e ts (call_tasks c.in-Call.arguments c.args.id) (top_first c.args.self.now.tasks) (top_first c.push_call.new.tasks) (top_first c.args.self.now.values) (length c.args.self.now.values.items) left
     (read_form b e c.args.nodes.now c.args.id.0 c.index-nodes-id.result _ shows c.index-nodes-id.is c.in-Call.is).tasks todos fits (sym (length-reverse c.args.self.now.values.items))
     (c.in_ok-push_call-in-Call.ensures ∙ ap (λ l. call_tasks l c.args.id ++ top_first c.args.self.now.tasks) c.as_slice-in-Call.ensures)
 
@@ -54,11 +54,11 @@ returns-in_ok-push_call-in-Call-clause-smaller c =
     (c.in_ok-push_call-in-Call.ensures ∙ ap (λ l. call_tasks l c.args.id ++ top_first c.args.self.now.tasks) c.as_slice-in-Call.ensures)
 
 pub returns-in-Number-clause-steps : goal.returns-in-Number-clause-steps
-returns-in-Number-clause-steps c = λ b bound e shows ts todos fits.
+returns-in-Number-clause-steps c = λ b left bound e shows ts todos fits.
     let answer = at_place c.index-nodes-id.result.place (number_of (pos c.in-Number.value)) in
-    steps_of c.give.result c.args.nodes.now b (keeping c.args.self.now.left answer) (sum_value b e c.args.self.now.left) (λ v. perform b ts (v.0 ∷ top_first c.args.self.now.values) v.1) c.give.new.self.tasks c.give.new.self.values c.give.new.self.left
-    (read_form b e c.args.nodes.now c.args.id.0 c.index-nodes-id.result _ shows c.index-nodes-id.is c.in-Number.is c.args.self.now.left)
-    (c.give.ensures.steps c.args.nodes.now b answer ts c.literal.ensures todos fits)
+    steps_of c.give.result c.args.nodes.now b (keeping left answer) (sum_value b e left) (λ v. perform b ts (v.0 ∷ top_first c.args.self.now.values) v.1) c.give.new.self.tasks c.give.new.self.values left
+    (read_form b e c.args.nodes.now c.args.id.0 c.index-nodes-id.result _ shows c.index-nodes-id.is c.in-Number.is left)
+    (c.give.ensures.steps c.args.nodes.now b left answer ts c.literal.ensures todos fits)
 
 pub returns-in-Number-clause-smaller : goal.returns-in-Number-clause-smaller
 returns-in-Number-clause-smaller c =
@@ -66,10 +66,10 @@ returns-in-Number-clause-smaller c =
     on_ok c.give.result (subst P (sym c.give.ensures.kept) (value_shrinks c.args.nodes.now c.args.id.0 (top_first c.args.self.now.tasks)))
 
 pub returns-in-Text-clause-steps : goal.returns-in-Text-clause-steps
-returns-in-Text-clause-steps c = λ b bound e shows ts todos fits.
-    steps_of c.give-in-Text.result c.args.nodes.now b (keeping c.args.self.now.left (Ok (values.Text c.in-Text.text))) (sum_value b e c.args.self.now.left) (λ v. perform b ts (v.0 ∷ top_first c.args.self.now.values) v.1) c.give-in-Text.new.self.tasks c.give-in-Text.new.self.values c.give-in-Text.new.self.left
-    (read_form b e c.args.nodes.now c.args.id.0 c.index-nodes-id.result _ shows c.index-nodes-id.is c.in-Text.is c.args.self.now.left)
-    (c.give-in-Text.ensures.steps c.args.nodes.now b (Ok (values.Text c.in-Text.text)) ts c.text_value.ensures todos fits)
+returns-in-Text-clause-steps c = λ b left bound e shows ts todos fits.
+    steps_of c.give-in-Text.result c.args.nodes.now b (keeping left (Ok (values.Text c.in-Text.text))) (sum_value b e left) (λ v. perform b ts (v.0 ∷ top_first c.args.self.now.values) v.1) c.give-in-Text.new.self.tasks c.give-in-Text.new.self.values left
+    (read_form b e c.args.nodes.now c.args.id.0 c.index-nodes-id.result _ shows c.index-nodes-id.is c.in-Text.is left)
+    (c.give-in-Text.ensures.steps c.args.nodes.now b left (Ok (values.Text c.in-Text.text)) ts c.text_value.ensures todos fits)
 
 pub returns-in-Text-clause-smaller : goal.returns-in-Text-clause-smaller
 returns-in-Text-clause-smaller c =
@@ -77,11 +77,11 @@ returns-in-Text-clause-smaller c =
     on_ok c.give-in-Text.result (subst P (sym c.give-in-Text.ensures.kept) (value_shrinks c.args.nodes.now c.args.id.0 (top_first c.args.self.now.tasks)))
 
 pub returns-in-Name-clause-steps : goal.returns-in-Name-clause-steps
-returns-in-Name-clause-steps c = λ b bound e shows ts todos fits.
+returns-in-Name-clause-steps c = λ b left bound e shows ts todos fits.
     let answer = named c.index-nodes-id.result.place (b c.in-Name.name) in
-    steps_of c.give-in-Name.result c.args.nodes.now b (keeping c.args.self.now.left answer) (sum_value b e c.args.self.now.left) (λ v. perform b ts (v.0 ∷ top_first c.args.self.now.values) v.1) c.give-in-Name.new.self.tasks c.give-in-Name.new.self.values c.give-in-Name.new.self.left
-    (read_form b e c.args.nodes.now c.args.id.0 c.index-nodes-id.result _ shows c.index-nodes-id.is c.in-Name.is c.args.self.now.left)
-    (c.give-in-Name.ensures.steps c.args.nodes.now b answer ts (c.named_value.ensures b bound) todos fits)
+    steps_of c.give-in-Name.result c.args.nodes.now b (keeping left answer) (sum_value b e left) (λ v. perform b ts (v.0 ∷ top_first c.args.self.now.values) v.1) c.give-in-Name.new.self.tasks c.give-in-Name.new.self.values left
+    (read_form b e c.args.nodes.now c.args.id.0 c.index-nodes-id.result _ shows c.index-nodes-id.is c.in-Name.is left)
+    (c.give-in-Name.ensures.steps c.args.nodes.now b left answer ts (c.named_value.ensures b bound) todos fits)
 
 pub returns-in-Name-clause-smaller : goal.returns-in-Name-clause-smaller
 returns-in-Name-clause-smaller c =

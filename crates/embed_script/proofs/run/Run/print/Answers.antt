@@ -6,8 +6,8 @@ use Rattle.embed_script.specs.Tasks.{values_of}
 use Rattle.embed_script.proofs.Runs.{goes_after}
 use Rattle.embed_script.proofs.run.Run.print.Goals as goal
 
-pub returns : goal.returns
-returns c = λ b lines is_bound printed es shows.
-    goes_after c.print_line.result lines (values_of b es c.args.self.now.left) (c.in_ok-values.values.items, c.in_ok-values.left) (λ vs. after lines (charge 1 vs.1) (λ rest. going b rest (lines ++ line_of vs.0 ∷ []))) c.print_line.new.self
-    (c.in_ok-values.ensures b is_bound es shows)
-    (subst (λ vs. Performs c.print_line.result (after lines (charge 1 c.in_ok-values.left) (λ rest. going b rest (lines ++ line_of vs ∷ []))) c.print_line.new.self) c.as_slice.ensures.value (c.print_line.ensures b lines is_bound printed))
+pub returns-clause-performs : goal.returns-clause-performs
+returns-clause-performs c = λ b lines is_bound printed es shows.
+    goes_after c.print_line.result lines (values_of b es c.args.self.now.state) (c.in_ok-values.values.items, c.evaluate_all-values.new.state) (λ vs. after lines (charge 1 vs.1) (λ rest. going b rest (lines ++ line_of vs.0 ∷ []))) c.print_line.new.self
+    (c.in_ok-values.ensures.meets b is_bound es shows)
+    (subst (λ vs. Performs c.print_line.result (after lines (charge 1 c.evaluate_all-values.new.state) (λ rest. going b rest (lines ++ line_of vs ∷ []))) c.print_line.new.self) c.as_slice.ensures.value (c.print_line.ensures.performs b lines is_bound printed))

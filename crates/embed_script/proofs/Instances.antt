@@ -1,0 +1,167 @@
+-- A new instance of a module without imports, and its function with an index.
+use Rattle.std.proofs.Common.{◌≡◌, ℕ, zero, suc, ◌+◌, ◌<◌, List, [], ◌∷◌, ◌++◌, Option, Some, None, Bool, true, false, ◌&&◌, cond, Result, Ok, Err, length, map, refl, sym, ap, ◌∙◌, subst, arith, slice_get}
+use Rattle.std.specs.Prelude.{slice_index_or}
+use Rattle.std.specs.List.{AllZip, filter_map}
+use Rattle.std.proofs.Math.Seq.{get_or-append_seam}
+use Rattle.std.proofs.lemmas.List.{length-append}
+use Rattle.std.proofs.lemmas.Option.{get_or_from_slice_get, same_Some}
+use Rattle.wasm_syntax.specs.declared.module.Module.{Module}
+use Rattle.wasm_syntax.specs.declared.module.Func.{Func}
+use Rattle.wasm_syntax.specs.declared.module.Import.{Import}
+use Rattle.wasm_syntax.specs.declared.types.FuncType.{FuncType}
+use Rattle.wasm_syntax.specs.declared.trap.Trap.{Trap}
+use Rattle.wasm_syntax.specs.declared.addresses.FuncAddr.{FuncAddr}
+use Rattle.wasm_syntax.specs.declared.addresses.InstAddr.{InstAddr}
+use Rattle.wasm_syntax.specs.declared.addresses.ModuleAddr.{ModuleAddr}
+use Rattle.wasm_valid.specs.Spaces.{then_, funcs_of, func_import, table_import, mem_import, global_import}
+use Rattle.wasm_store.specs.declared.instances.Instance.{Instance}
+use Rattle.wasm_store.specs.Store.{Store, no_module, blank, with_module, module_at, instance_at, function_at, type_of}
+use Rattle.wasm_store.specs.Whole.{HasFunction, HasTable, HasMemory, HasGlobal, HasLists, own_type}
+use Rattle.wasm_store.specs.Laws.{FunctionOfIndex}
+use Rattle.wasm_store.specs.Allocated.{func_addr, instance_of as lists_of, AreImports}
+use Rattle.wasm_instance.specs.Instantiation.{Outcome, goes, traps, instantiated, is_within_limits, start_of}
+use Rattle.embed_script.specs.declared.state.State.{State}
+use Rattle.embed_script.specs.Ends.{End, and_then, runtime_error, range_error}
+use Rattle.embed_script.specs.Functions.{is_empty, is_self_contained, is_word_type, has_word_type, started, with_segments, next_module, instance_with}
+use Rattle.embed_script.specs.Serving.{IsCallable}
+
+empty : {A : Type 0} → (xs : List A) → is_empty xs ≡ true → xs ≡ []
+empty [] e = refl
+empty (x ∷ xs) e = absurd (let h : false ≡ true = e in cc)
+
+first_of : (a b : Bool) → (a && b) ≡ true → a ≡ true
+first_of true b e = refl
+first_of false b e = cc
+
+second_of : (a b : Bool) → (a && b) ≡ true → b ≡ true
+second_of true b e = e
+second_of false b e = cc
+
+-- what a self-contained module lacks
+pub record Lacks (m : Module) : Type 0 where
+  pub imports : m.imports ≡ []
+  pub mems : m.mems ≡ []
+  pub datas : m.datas ≡ []
+
+pub lacks : (m : Module) → is_self_contained m ≡ true → Lacks m
+lacks m e =
+    let both = first_of (is_empty m.imports && is_empty m.mems) (is_empty m.datas) e in
+    record {
+      imports = empty m.imports (first_of (is_empty m.imports) (is_empty m.mems) both);
+      mems = empty m.mems (second_of (is_empty m.imports) (is_empty m.mems) both);
+      datas = empty m.datas (second_of (is_empty m.imports && is_empty m.mems) (is_empty m.datas) e);
+    }
+
+-- the module that was moved in
+pub module_new : (m : Module) (s : Store) (a : ModuleAddr) → a.0 ≡ length s.modules → module_at (with_module m s) a ≡ m
+module_new m s a e = ap (λ k. slice_index_or (s.modules ++ m ∷ []) k no_module) e ∙ get_or-append_seam s.modules m [] no_module
+
+pub live_new : (m : Module) (s : Store) (a : ModuleAddr) → a.0 ≡ length s.modules → a.0 < length (with_module m s).modules
+live_new m s a e = omega (arith, e, length-append s.modules (m ∷ []))
+
+-- no import is asked
+pub no_imports : (s : Store) (m : Module) (a : ModuleAddr) → m.imports ≡ [] → AreImports s m (blank a)
+no_imports s m a e =
+    record {
+      funcs = subst (λ (is : List Import). AllZip (HasFunction s m) [] (filter_map (λ (i : Import). func_import i.desc) is)) (sym e) tt;
+      tables = subst (λ (is : List Import). AllZip (HasTable s) [] (filter_map (λ (i : Import). table_import i.desc) is)) (sym e) tt;
+      mems = subst (λ (is : List Import). AllZip (HasMemory s) [] (filter_map (λ (i : Import). mem_import i.desc) is)) (sym e) tt;
+      globals = subst (λ (is : List Import). AllZip (HasGlobal s) [] (filter_map (λ (i : Import). global_import i.desc) is)) (sym e) tt;
+    }
+
+-- The function.
+
+-- the type of an own function, by its number
+pub record IsOwn (m : Module) (k : ℕ) : Type 0 where
+  pub own : Func
+  pub type : FuncType
+  pub own_is : slice_get m.funcs k ≡ Some own
+  pub type_is : slice_get m.types own.ty ≡ Some type
+  pub word : is_word_type type ≡ true
+
+by_type : (m : Module) (k : ℕ) (g : Func) → slice_get m.funcs k ≡ Some g → (o : Option FuncType) → slice_get m.types g.ty ≡ o → has_word_type o ≡ true → IsOwn m k
+by_type m k g a None b e = absurd (let h : false ≡ true = e in cc)
+by_type m k g a (Some t) b e = record { own = g; type = t; own_is = a; type_is = b; word = e }
+
+by_func : (m : Module) (k : ℕ) (o : Option Func) → slice_get m.funcs k ≡ o → has_word_type (then_ o (λ (g : Func). slice_get m.types g.ty)) ≡ true → IsOwn m k
+by_func m k None a e = absurd (let h : false ≡ true = e in cc)
+by_func m k (Some g) a e = by_type m k g a (slice_get m.types g.ty) refl e
+
+own_there : (m : Module) (k : ℕ) → has_word_type (own_type m k) ≡ true → IsOwn m k
+own_there m k e = by_func m k (slice_get m.funcs k) refl e
+
+get_mapped : (gs : List Func) (k : ℕ) (g : Func) → slice_get gs k ≡ Some g → slice_get (map (λ (f : Func). f.ty) gs) k ≡ Some g.ty
+get_mapped [] k g e = absurd (let h : ◌≡◌ None (Some g) = e in cc)
+get_mapped (f ∷ gs) zero g e = ap (λ (x : Func). Some x.ty) (same_Some f g e)
+get_mapped (f ∷ gs) (suc k) g e = get_mapped gs k g e
+
+own_index : (m : Module) (k : ℕ) (g : Func) → m.imports ≡ [] → slice_get m.funcs k ≡ Some g → slice_get (funcs_of m) k ≡ Some g.ty
+own_index m k g e h =
+    ap (λ (is : List Import). slice_get (filter_map (λ (i : Import). func_import i.desc) is ++ map (λ (f : Func). f.ty) m.funcs) k) e ∙ get_mapped m.funcs k g h
+
+-- in an instance of the module it is live and of its type
+pub own_callable : FunctionOfIndex → (s : Store) (i : Instance) (m : Module) (k : ℕ) → HasLists s i → module_at s i.module ≡ m → m.imports ≡ [] → has_word_type (own_type m k) ≡ true
+    → IsCallable s (slice_index_or i.funcs k (func_addr 0))
+own_callable index s i m k lists is none word =
+    let o = own_there m k word in
+    let at : slice_get (funcs_of (module_at s i.module)) k ≡ Some o.own.ty = ap (λ (n : Module). slice_get (funcs_of n) k) is ∙ own_index m k o.own none o.own_is in
+    let h = index s i k o.own.ty lists at in
+    let f : slice_index_or i.funcs k (func_addr 0) ≡ h.0 = get_or_from_slice_get i.funcs k h.0 (func_addr 0) h.1 in
+    let typed : Some o.type ≡ Some (type_of (function_at s h.0)) = sym o.type_is ∙ ap (λ (n : Module). slice_get n.types o.own.ty) (sym is) ∙ h.2.1 in
+    subst (IsCallable s) (sym f) (h.2.0, ap is_word_type (sym (same_Some o.type (type_of (function_at s h.0)) typed)) ∙ o.word)
+
+-- What the definition says.
+
+choose_within : (b : Bool) (x : Result (FuncAddr × State) End) → b ≡ true → cond b x (Err range_error) ≡ x
+choose_within true x e = refl
+choose_within false x e = cc
+
+choose_past : (b : Bool) (x : Result (FuncAddr × State) End) → b ≡ false → cond b x (Err range_error) ≡ Err range_error
+choose_past false x e = refl
+choose_past true x e = cc
+
+-- the parts of the definition, over the store with the module
+pub record IsMade (m : Module) (s : State) (a : ModuleAddr) (t : Store) (imports : Instance) : Type 0 where
+  pub address : a ≡ next_module s.store
+  pub store : t ≡ with_module m s.store
+  pub none : imports ≡ blank a
+  pub «module» : module_at t a ≡ m
+
+within : (m : Module) (s : State) (a : ModuleAddr) (t : Store) (imports : Instance) (k : ℕ) → IsMade m s a t imports → is_within_limits (module_at t a) ≡ true
+    → instance_with m k s ≡ with_segments m (lists_of a imports t) k s.left (instantiated a imports t)
+within m s a t imports k h e =
+    let n = next_module s.store in
+    choose_within (is_within_limits m) (with_segments m (lists_of n (blank n) (with_module m s.store)) k s.left (instantiated n (blank n) (with_module m s.store))) (ap is_within_limits (sym h.module) ∙ e)
+    ∙ ap (λ b. with_segments m (lists_of b (blank b) (with_module m s.store)) k s.left (instantiated b (blank b) (with_module m s.store))) (sym h.address)
+    ∙ ap (λ u. with_segments m (lists_of a (blank a) u) k s.left (instantiated a (blank a) u)) (sym h.store)
+    ∙ ap (λ (i : Instance). with_segments m (lists_of a i t) k s.left (instantiated a i t)) (sym h.none)
+
+pub made_ready : (m : Module) (s : State) (a : ModuleAddr) (t : Store) (imports : Instance) (k : ℕ) (u : Store) (start : Option FuncAddr) (r : State) (f : FuncAddr) → IsMade m s a t imports → is_within_limits (module_at t a) ≡ true
+    → instantiated a imports t ≡ goes u → start ≡ start_of (module_at t a) (lists_of a imports t) → started start (record { store = u; left = s.left }) ≡ Ok r → f ≡ slice_index_or (lists_of a imports t).funcs k (func_addr 0)
+    → instance_with m k s ≡ Ok (f, r)
+made_ready m s a t imports k u start r f h e g b d l =
+    let i = lists_of a imports t in
+    within m s a t imports k h e
+    ∙ ap (with_segments m i k s.left) g
+    ∙ ap (λ q. and_then (started q (record { store = u; left = s.left })) (λ x. Ok (slice_index_or i.funcs k (func_addr 0), x))) (ap (λ n. start_of n i) (sym h.module) ∙ sym b)
+    ∙ ap (λ q. and_then q (λ x. Ok (slice_index_or i.funcs k (func_addr 0), x))) d
+    ∙ ap (λ x. Ok (x, r)) (sym l)
+
+pub made_stopped : (m : Module) (s : State) (a : ModuleAddr) (t : Store) (imports : Instance) (k : ℕ) (u : Store) (start : Option FuncAddr) (end : End) → IsMade m s a t imports → is_within_limits (module_at t a) ≡ true
+    → instantiated a imports t ≡ goes u → start ≡ start_of (module_at t a) (lists_of a imports t) → started start (record { store = u; left = s.left }) ≡ Err end
+    → instance_with m k s ≡ Err end
+made_stopped m s a t imports k u start end h e g b d =
+    let i = lists_of a imports t in
+    within m s a t imports k h e
+    ∙ ap (with_segments m i k s.left) g
+    ∙ ap (λ q. and_then (started q (record { store = u; left = s.left })) (λ x. Ok (slice_index_or i.funcs k (func_addr 0), x))) (ap (λ n. start_of n i) (sym h.module) ∙ sym b)
+    ∙ ap (λ q. and_then q (λ x. Ok (slice_index_or i.funcs k (func_addr 0), x))) d
+
+pub made_trapped : (m : Module) (s : State) (a : ModuleAddr) (t : Store) (imports : Instance) (k : ℕ) (u : Store) (cause : Trap) → IsMade m s a t imports → is_within_limits (module_at t a) ≡ true
+    → instantiated a imports t ≡ traps cause u → instance_with m k s ≡ Err runtime_error
+made_trapped m s a t imports k u cause h e g = within m s a t imports k h e ∙ ap (with_segments m (lists_of a imports t) k s.left) g
+
+pub made_past : (m : Module) (s : State) (a : ModuleAddr) (t : Store) (imports : Instance) (k : ℕ) → IsMade m s a t imports → is_within_limits (module_at t a) ≡ false → instance_with m k s ≡ Err range_error
+made_past m s a t imports k h e =
+    let n = next_module s.store in
+    choose_past (is_within_limits m) (with_segments m (lists_of n (blank n) (with_module m s.store)) k s.left (instantiated n (blank n) (with_module m s.store))) (ap is_within_limits (sym h.module) ∙ e)

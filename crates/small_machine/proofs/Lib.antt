@@ -1,4 +1,0 @@
-pub mod Acts
-pub mod Flowing
-pub mod Locals
-pub mod Invoking
