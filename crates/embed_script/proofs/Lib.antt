@@ -5,7 +5,7 @@ pub mod Steps
 pub mod Lines
 pub mod Bound
 pub mod Serving
-pub mod Instances
+pub mod Made
 pub mod Runs
 pub mod Loads
 pub mod Arguments

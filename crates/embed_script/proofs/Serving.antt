@@ -9,10 +9,15 @@ use Rattle.std.specs.String.{string_eq}
 use Rattle.wasm_syntax.specs.declared.types.ValType.{ValType}
 use Rattle.wasm_syntax.specs.declared.types.ValType.TheVariants as v
 use Rattle.wasm_syntax.specs.declared.types.FuncType.{FuncType}
+use Rattle.wasm_syntax.specs.declared.value.Value.{Value as WasmValue}
 use Rattle.wasm_syntax.specs.declared.value.Value.TheVariants as w
 use Rattle.wasm_syntax.specs.declared.addresses.FuncAddr.{FuncAddr}
-use Rattle.wasm_store.specs.Store.{Store, type_of, function_at, no_function}
-use Rattle.wasm_store.specs.Whole.{HasType, IsLater}
+use Rattle.std.proofs.lemmas.List.Elements.{All-weaker}
+use Rattle.wasm_syntax.specs.declared.module.Module.{Module}
+use Rattle.wasm_store.specs.declared.instances.FuncInst.{FuncInst}
+use Rattle.wasm_store.specs.declared.instances.FuncInst.TheVariants as kind
+use Rattle.wasm_store.specs.Store.{Store, type_of, function_at, no_function, with_module}
+use Rattle.wasm_store.specs.Whole.{HasType, HasCode, IsLater}
 use Rattle.wasm_store.specs.Laws.{FunctionsStay}
 use Rattle.wasm_machine.specs.Entering.{CanEnter}
 use Rattle.wasm_instance.specs.Laws.{IsStart}
@@ -83,5 +88,21 @@ can_call s f ws c h n =
     let g = type_of (function_at s f) in
     record { live = h.0; code = c f.0 no_function h.0; args = words_typed s ws g.params (and_first (are_i32 g.params) (is_one_i32 g.results) h.1) n }
 
+pub can_call_at : (s t : Store) (f : FuncAddr) (args : List WasmValue) (ws : List ℕ) → t ≡ s → AllHaveCode s → IsCallable s f → args ≡ map w.I32 ws → length ws ≡ parameters_of t f → CanEnter t f args
+can_call_at s t f args ws e c h k n =
+    let in_s : length ws ≡ parameters_of s f = n ∙ ap (λ u. parameters_of u f) e in
+    subst (λ u. CanEnter u f args) (sym e) (subst (CanEnter s f) (sym k) (can_call s f ws c h in_s))
+
 pub can_start : (s : Store) (f : FuncAddr) → AllHaveCode s → IsStart s (Some f) → CanEnter s f []
 can_start s f c h = record { live = h.0; code = c f.0 no_function h.0; args = subst (λ (ts : List ValType). AllZip (HasType s) [] ts) (sym h.1) tt }
+
+-- Modules.
+
+code_there : (m : Module) (s : Store) (g : FuncInst) → HasCode s g → HasCode (with_module m s) g
+code_there m s (kind.Wasm ty i x) h = h
+code_there m s (kind.Host ty callee) h = h
+code_there m s (kind.Suspending ty callee) h = h
+
+-- one module more takes no code away
+pub code_with : (m : Module) (s t : Store) → t ≡ with_module m s → AllHaveCode s → AllHaveCode t
+code_with m s t e h = subst AllHaveCode (sym e) (All-weaker (HasCode s) (HasCode (with_module m s)) (code_there m s) s.functions h)

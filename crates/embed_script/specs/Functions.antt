@@ -138,7 +138,7 @@ next_module s = record { 0 = length s.modules }
 -- a new instance of a module without imports, and its function with this index
 abbrev pub instance_with : Module → (index : ℕ) → State → Result (FuncAddr × State) End
 instance_with m index s =
-    if is_within_limits m
+    if is_within_limits (with_module m s.store) m
     then with_segments m (lists_of (next_module s.store) (blank (next_module s.store)) (with_module m s.store)) index s.left (instantiated (next_module s.store) (blank (next_module s.store)) (with_module m s.store))
     else Err range_error
 

@@ -165,15 +165,23 @@ fn offered(module: &Module, name: &str) -> Option<u32>
     None
 }
 
+/// The function with an index, or another where there is none.
+fn function_or(funcs: &[FuncAddr], index: u32, other: FuncAddr) -> FuncAddr
+    ensures { result ≡ slice_index_or funcs.now index other }
+{
+    match funcs.get(index as usize) {
+        Some(func) => *func,
+        None => other,
+    }
+}
+
 /// The function with an index in an instance.
 fn function_of(store: &Store, instance: InstAddr, index: u32) -> FuncAddr
     requires { «instance».0 < length store.now.instances }
     ensures { result ≡ slice_index_or (instance_at store.now «instance»).funcs index (func_addr 0) }
 {
-    match store.instance(instance).funcs.get(index as usize) {
-        Some(func) => *func,
-        None => FuncAddr(0),
-    }
+    let funcs = store.instance(instance).funcs.as_slice();
+    function_or(funcs, index, FuncAddr(0))
 }
 
 /// Runs a start function, where there is one.
@@ -239,10 +247,10 @@ pub(crate) fn instance(
     ensures callable { IfOk result (λ func. IsCallable state.new.store func × AllHaveCode state.new.store) }
 {
     order();
-    charge(CALL, state)?;
-    charge(CALL, state)?;
+    charge(CALL, state)?; // readbuffer
+    charge(CALL, state)?; // new WebAssembly.Module
     let module = module_named(alloc, files, file)?;
-    charge(CALL, state)?;
+    charge(CALL, state)?; // new WebAssembly.Instance
     let Some(owner) = module else {
         return Err(refuse(place, OutsideKind::NotYet));
     };

@@ -189,17 +189,6 @@ impl Run {
     }
 }
 
-/// The transcript of a run that ended with an exception.
-fn uncaught(text: String) -> Transcript
-    ensures text { result.text ≡ string_bytes text }
-    ensures status { result.status ≡ Status.Uncaught }
-{
-    Transcript {
-        status: Status::Uncaught,
-        text: PlainString::from_string(text),
-    }
-}
-
 impl Run {
     /// The transcript of a run that stopped.
     fn stopped(self, stop: Stop) -> Result<Transcript, AllocError>
@@ -215,15 +204,24 @@ impl Run {
             Stop::NoMemory => Err(AllocError),
             Stop::CompileError => {
                 add_exception(&mut text, "CompileError")?;
-                Ok(uncaught(text))
+                Ok(Transcript {
+                    status: Status::Uncaught,
+                    text: PlainString::from_string(text),
+                })
             }
             Stop::RuntimeError => {
                 add_exception(&mut text, "RuntimeError")?;
-                Ok(uncaught(text))
+                Ok(Transcript {
+                    status: Status::Uncaught,
+                    text: PlainString::from_string(text),
+                })
             }
             Stop::RangeError => {
                 add_exception(&mut text, "RangeError")?;
-                Ok(uncaught(text))
+                Ok(Transcript {
+                    status: Status::Uncaught,
+                    text: PlainString::from_string(text),
+                })
             }
             Stop::Outside(refusal) => {
                 add_refusal(&mut text, refusal)?;

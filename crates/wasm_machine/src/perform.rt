@@ -16,8 +16,8 @@ mod tables;
 mod variables;
 
 impl WasmFrame {
-    /// A simple instruction, or the trap in which it ends. Only `table.grow` takes memory. No instance has a memory or a data segment
-    /// yet, so that the instructions on these are never at work: they are answered as want of memory.
+    /// A simple instruction, or the trap in which it ends. Only `table.grow` takes memory. The instructions on memories and data
+    /// segments aren't carried out yet: they are answered as want of memory.
     #[inline]
     pub(crate) fn simple(
         &mut self,

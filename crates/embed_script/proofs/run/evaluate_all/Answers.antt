@@ -22,7 +22,7 @@ pub loop-id-preserved : goal.loop-id-preserved
 loop-id-preserved c = record {
   gives = λ b bound es shows.
       let f = front c.args.nodes.now b (values_of b es c.args.state.now) c.args.ids.now c.loop-id.id-index (record { 0 = 0 }) c.loop-id.values.items c.loop-id.state c.loop-id-test.true (c.loop-id.invariant.gives b bound es shows) in
-      value_done c.args.nodes.now b (values_of b es c.args.state.now) _ _ c.in_ok-value.value c.loop-id.values.items c.push.new.self.items c.loop-id.state c.evaluate-value.new.state f (c.in_ok-value.ensures.meets b bound f.first f.first_shown) c.in_ok-push.ensures.items;
+      value_done c.args.nodes.now b (values_of b es c.args.state.now) _ _ c.in_ok-value.value c.loop-id.values.items c.push.new.self.items c.loop-id.state c.evaluate.new.state f (c.in_ok-value.ensures.meets b bound f.first f.first_shown) c.in_ok-push.ensures.items;
   serves = c.in_ok-value.ensures.serves;
 }
 

@@ -9,9 +9,9 @@ use Rattle.embed_script.proofs.run.Run.bind.Goals as goal
 
 pub returns-clause-performs : goal.returns-clause-performs
 returns-clause-performs c = λ modules decoded b lines is_bound printed.
-    let is : instance_of modules c.args.file.now c.args.export.now c.args.place c.args.self.now.state ≡ Ok (c.in_ok-function.function, c.instance-function.new.state) =
+    let is : instance_of modules c.args.file.now c.args.export.now c.args.place c.args.self.now.state ≡ Ok (c.in_ok-function.function, c.instance.new.state) =
     ap (λ n. instance_of modules n c.args.export.now c.args.place c.args.self.now.state) (sym c.as_str.ensures)
     ∙ ap (λ n. instance_of modules c.as_str.result.now n c.args.place c.args.self.now.state) (sym c.as_str-2.ensures) ∙ c.in_ok-function.ensures.meets modules decoded in
     let same : string_bytes c.in_ok-name.name ≡ c.args.name.now = c.in_ok-name.ensures.ok ∙ c.as_str-3.ensures in
-    subst (λ r. Stands (after lines r (λ f. going (bound b c.args.name.now (function f.0)) f.1 lines)) (record { names = c.insert.new.self; state = c.instance-function.new.state; text = c.args.self.now.text })) (sym is)
+    subst (λ r. Stands (after lines r (λ f. going (bound b c.args.name.now (function f.0)) f.1 lines)) (record { names = c.insert.new.self; state = c.instance.new.state; text = c.args.self.now.text })) (sym is)
     (bound_more b c.args.self.now.names c.insert.new.self c.in_ok-name.name c.args.name.now (bounds.Function c.in_ok-function.function) is_bound same c.in_ok-insert.ensures.updates, printed, refl)

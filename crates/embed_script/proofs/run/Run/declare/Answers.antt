@@ -8,7 +8,7 @@ use Rattle.embed_script.proofs.run.Run.declare.Goals as goal
 
 pub returns-clause-performs : goal.returns-clause-performs
 returns-clause-performs c = λ b lines is_bound printed e shows.
-    let is : sum_value b e c.args.self.now.state ≡ Ok (c.in_ok-value.value, c.evaluate-value.new.state) = c.in_ok-value.ensures.meets b is_bound e shows in
+    let is : sum_value b e c.args.self.now.state ≡ Ok (c.in_ok-value.value, c.evaluate.new.state) = c.in_ok-value.ensures.meets b is_bound e shows in
     let same : string_bytes c.in_ok-name.name ≡ c.args.name.now = c.in_ok-name.ensures.ok ∙ c.as_str.ensures in
-    subst (λ r. Stands (after lines r (λ v. going (bound b c.args.name.now (value v.0)) v.1 lines)) (record { names = c.insert.new.self; state = c.evaluate-value.new.state; text = c.args.self.now.text })) (sym is)
+    subst (λ r. Stands (after lines r (λ v. going (bound b c.args.name.now (value v.0)) v.1 lines)) (record { names = c.insert.new.self; state = c.evaluate.new.state; text = c.args.self.now.text })) (sym is)
     (bound_more b c.args.self.now.names c.insert.new.self c.in_ok-name.name c.args.name.now (bounds.Value c.in_ok-value.value) is_bound same c.in_ok-insert.ensures.updates, printed, refl)

@@ -127,16 +127,16 @@ pub record IsMade (m : Module) (s : State) (a : ModuleAddr) (t : Store) (imports
   pub none : imports ≡ blank a
   pub «module» : module_at t a ≡ m
 
-within : (m : Module) (s : State) (a : ModuleAddr) (t : Store) (imports : Instance) (k : ℕ) → IsMade m s a t imports → is_within_limits (module_at t a) ≡ true
+within : (m : Module) (s : State) (a : ModuleAddr) (t : Store) (imports : Instance) (k : ℕ) → IsMade m s a t imports → is_within_limits t (module_at t a) ≡ true
     → instance_with m k s ≡ with_segments m (lists_of a imports t) k s.left (instantiated a imports t)
 within m s a t imports k h e =
     let n = next_module s.store in
-    choose_within (is_within_limits m) (with_segments m (lists_of n (blank n) (with_module m s.store)) k s.left (instantiated n (blank n) (with_module m s.store))) (ap is_within_limits (sym h.module) ∙ e)
+    choose_within (is_within_limits (with_module m s.store) m) (with_segments m (lists_of n (blank n) (with_module m s.store)) k s.left (instantiated n (blank n) (with_module m s.store))) (ap (λ (u : Store). is_within_limits u m) (sym h.store) ∙ ap (is_within_limits t) (sym h.module) ∙ e)
     ∙ ap (λ b. with_segments m (lists_of b (blank b) (with_module m s.store)) k s.left (instantiated b (blank b) (with_module m s.store))) (sym h.address)
     ∙ ap (λ u. with_segments m (lists_of a (blank a) u) k s.left (instantiated a (blank a) u)) (sym h.store)
     ∙ ap (λ (i : Instance). with_segments m (lists_of a i t) k s.left (instantiated a i t)) (sym h.none)
 
-pub made_ready : (m : Module) (s : State) (a : ModuleAddr) (t : Store) (imports : Instance) (k : ℕ) (u : Store) (start : Option FuncAddr) (r : State) (f : FuncAddr) → IsMade m s a t imports → is_within_limits (module_at t a) ≡ true
+pub made_ready : (m : Module) (s : State) (a : ModuleAddr) (t : Store) (imports : Instance) (k : ℕ) (u : Store) (start : Option FuncAddr) (r : State) (f : FuncAddr) → IsMade m s a t imports → is_within_limits t (module_at t a) ≡ true
     → instantiated a imports t ≡ goes u → start ≡ start_of (module_at t a) (lists_of a imports t) → started start (record { store = u; left = s.left }) ≡ Ok r → f ≡ slice_index_or (lists_of a imports t).funcs k (func_addr 0)
     → instance_with m k s ≡ Ok (f, r)
 made_ready m s a t imports k u start r f h e g b d l =
@@ -147,7 +147,7 @@ made_ready m s a t imports k u start r f h e g b d l =
     ∙ ap (λ q. and_then q (λ x. Ok (slice_index_or i.funcs k (func_addr 0), x))) d
     ∙ ap (λ x. Ok (x, r)) (sym l)
 
-pub made_stopped : (m : Module) (s : State) (a : ModuleAddr) (t : Store) (imports : Instance) (k : ℕ) (u : Store) (start : Option FuncAddr) (end : End) → IsMade m s a t imports → is_within_limits (module_at t a) ≡ true
+pub made_stopped : (m : Module) (s : State) (a : ModuleAddr) (t : Store) (imports : Instance) (k : ℕ) (u : Store) (start : Option FuncAddr) (end : End) → IsMade m s a t imports → is_within_limits t (module_at t a) ≡ true
     → instantiated a imports t ≡ goes u → start ≡ start_of (module_at t a) (lists_of a imports t) → started start (record { store = u; left = s.left }) ≡ Err end
     → instance_with m k s ≡ Err end
 made_stopped m s a t imports k u start end h e g b d =
@@ -157,11 +157,11 @@ made_stopped m s a t imports k u start end h e g b d =
     ∙ ap (λ q. and_then (started q (record { store = u; left = s.left })) (λ x. Ok (slice_index_or i.funcs k (func_addr 0), x))) (ap (λ n. start_of n i) (sym h.module) ∙ sym b)
     ∙ ap (λ q. and_then q (λ x. Ok (slice_index_or i.funcs k (func_addr 0), x))) d
 
-pub made_trapped : (m : Module) (s : State) (a : ModuleAddr) (t : Store) (imports : Instance) (k : ℕ) (u : Store) (cause : Trap) → IsMade m s a t imports → is_within_limits (module_at t a) ≡ true
+pub made_trapped : (m : Module) (s : State) (a : ModuleAddr) (t : Store) (imports : Instance) (k : ℕ) (u : Store) (cause : Trap) → IsMade m s a t imports → is_within_limits t (module_at t a) ≡ true
     → instantiated a imports t ≡ traps cause u → instance_with m k s ≡ Err runtime_error
 made_trapped m s a t imports k u cause h e g = within m s a t imports k h e ∙ ap (with_segments m (lists_of a imports t) k s.left) g
 
-pub made_past : (m : Module) (s : State) (a : ModuleAddr) (t : Store) (imports : Instance) (k : ℕ) → IsMade m s a t imports → is_within_limits (module_at t a) ≡ false → instance_with m k s ≡ Err range_error
+pub made_past : (m : Module) (s : State) (a : ModuleAddr) (t : Store) (imports : Instance) (k : ℕ) → IsMade m s a t imports → is_within_limits t (module_at t a) ≡ false → instance_with m k s ≡ Err range_error
 made_past m s a t imports k h e =
     let n = next_module s.store in
-    choose_past (is_within_limits m) (with_segments m (lists_of n (blank n) (with_module m s.store)) k s.left (instantiated n (blank n) (with_module m s.store))) (ap is_within_limits (sym h.module) ∙ e)
+    choose_past (is_within_limits (with_module m s.store) m) (with_segments m (lists_of n (blank n) (with_module m s.store)) k s.left (instantiated n (blank n) (with_module m s.store))) (ap (λ (u : Store). is_within_limits u m) (sym h.store) ∙ ap (is_within_limits t) (sym h.module) ∙ e)

@@ -1,0 +1,7 @@
+//! Tests of the machine through scripts: numbers, control, tables, globals and start functions, over the top call.
+#![tactic(auto)]
+
+#[cfg(test)]
+mod modules;
+#[cfg(test)]
+mod running;

@@ -1,0 +1,10 @@
+//! Modules of the tests, in the binary format.
+
+mod numbers;
+mod others;
+
+pub(crate) use numbers::{NUMBERS_32, NUMBERS_64};
+pub(crate) use others::{
+    CONTROL, GLOBALS, LARGE, LOCALS, SEGMENT_AT_END, SEGMENT_PAST_END, START, START_AFTER_SEGMENTS,
+    START_LOOPS, START_RECURS, START_TRAPS, TABLES, TOO_LARGE, TRAPS,
+};
