@@ -87,4 +87,3 @@ placed place (Err e) x is = cc
 
 pub placed_count : (place n : ℕ) (vs : List Value) (ws : List ℕ) → at_place place (words_of n vs) ≡ Ok ws → length ws ≡ n
 placed_count place n vs ws is = words_count n vs ws (placed place (words_of n vs) ws is)
-

@@ -1,5 +1,5 @@
 -- Worked cases of the definitions, each by computation. How a number is written in decimal is left to the standard library.
-use Rattle.std.proofs.Common.{◌≡◌, ℕ, [], ◌∷◌, ◌++◌, Some, None, Ok, Err, refl, pos, negsuc, codes}
+use Rattle.std.proofs.Common.{◌≡◌, ℕ, [], ◌∷◌, ◌++◌, Ok, Err, refl, pos, negsuc, codes}
 use Rattle.embed_base.specs.declared.status.Status.TheVariants as statuses
 use Rattle.embed_base.specs.declared.outside.OutsideKind.TheVariants as kinds
 use Rattle.embed_base.specs.declared.outside.Place.TheVariants as places

@@ -1,5 +1,5 @@
 -- A new instance of a module without imports, and its function with an index.
-use Rattle.std.proofs.Common.{◌≡◌, ℕ, zero, suc, ◌+◌, ◌<◌, List, [], ◌∷◌, ◌++◌, Option, Some, None, Bool, true, false, ◌&&◌, cond, Result, Ok, Err, length, map, refl, sym, ap, ◌∙◌, subst, arith, slice_get}
+use Rattle.std.proofs.Common.{◌≡◌, ℕ, zero, suc, ◌<◌, List, [], ◌∷◌, ◌++◌, Option, Some, None, Bool, true, false, ◌&&◌, cond, Result, Ok, Err, IfSome, length, map, refl, sym, ap, ◌∙◌, subst, arith, slice_get}
 use Rattle.std.specs.Prelude.{slice_index_or}
 use Rattle.std.specs.List.{AllZip, filter_map}
 use Rattle.std.proofs.Math.Seq.{get_or-append_seam}
@@ -16,13 +16,18 @@ use Rattle.wasm_syntax.specs.declared.addresses.ModuleAddr.{ModuleAddr}
 use Rattle.wasm_valid.specs.Spaces.{then_, funcs_of, func_import, table_import, mem_import, global_import}
 use Rattle.wasm_store.specs.declared.instances.Instance.{Instance}
 use Rattle.wasm_store.specs.Store.{Store, no_module, blank, with_module, module_at, instance_at, function_at, type_of}
-use Rattle.wasm_store.specs.Whole.{HasFunction, HasTable, HasMemory, HasGlobal, HasLists, own_type}
-use Rattle.wasm_store.specs.Laws.{FunctionOfIndex}
+use Rattle.wasm_store.specs.Whole.{HasFunction, HasTable, HasMemory, HasGlobal, HasLists, IsLater, own_type}
+use Rattle.wasm_store.specs.Laws.{ModulesStay, FunctionOfIndex}
 use Rattle.wasm_store.specs.Allocated.{func_addr, instance_of as lists_of, AreImports}
-use Rattle.wasm_instance.specs.Instantiation.{Outcome, goes, traps, instantiated, is_within_limits, start_of}
+use Rattle.wasm_instance.specs.declared.modules.Instantiated.{Instantiated}
+use Rattle.wasm_instance.specs.declared.modules.Instantiated.TheVariants as ends
+use Rattle.wasm_instance.specs.Instantiation.{goes, traps, instantiated, is_within_limits, start_of, Instantiates}
+use Rattle.wasm_instance.specs.Laws.{IsThere}
 use Rattle.embed_script.specs.declared.state.State.{State}
 use Rattle.embed_script.specs.Ends.{End, and_then, runtime_error, range_error}
 use Rattle.embed_script.specs.Functions.{is_empty, is_self_contained, is_word_type, has_word_type, started, with_segments, next_module, instance_with}
+use Rattle.embed_script.specs.declared.stop.Stop.{Stop}
+use Rattle.embed_script.specs.Stops.{end_of, Ends}
 use Rattle.embed_script.specs.Serving.{IsCallable}
 
 empty : {A : Type 0} → (xs : List A) → is_empty xs ≡ true → xs ≡ []
@@ -165,3 +170,39 @@ pub made_past : (m : Module) (s : State) (a : ModuleAddr) (t : Store) (imports :
 made_past m s a t imports k h e =
     let n = next_module s.store in
     choose_past (is_within_limits (with_module m s.store) m) (with_segments m (lists_of n (blank n) (with_module m s.store)) k s.left (instantiated n (blank n) (with_module m s.store))) (ap (λ (u : Store). is_within_limits u m) (sym h.store) ∙ ap (is_within_limits t) (sym h.module) ∙ e)
+
+pub made : (m : Module) (s : State) (a : ModuleAddr) (t : Store) (imports : Instance) → a.0 ≡ length s.store.modules → t ≡ with_module m s.store → imports ≡ blank a → IsMade m s a t imports
+made m s a t imports e g h =
+    let at : a ≡ next_module s.store = ap (λ n. record { 0 = n }) e in
+    record { address = at; store = g; none = h; «module» = ap (λ u. module_at u a) g ∙ module_new m s.store a e }
+
+-- An instantiation that is ready.
+
+pub ready : (m : Module) (s : State) (a : ModuleAddr) (t : Store) (imports : Instance) (k : ℕ) (u : Store) (i : InstAddr) (start : Option FuncAddr) (d : Instantiated) (r : State) (f : FuncAddr) → IsMade m s a t imports
+    → Instantiates a imports t d u → IsThere a imports t d u → d ≡ ends.Ready i start → started start (record { store = u; left = s.left }) ≡ Ok r → f ≡ slice_index_or (instance_at u i).funcs k (func_addr 0) → instance_with m k s ≡ Ok (f, r)
+ready m s a t imports k u i start d r f h e there is q l =
+    let b : Instantiates a imports t (ends.Ready i start) u = subst (λ x. Instantiates a imports t x u) is e in
+    let g : IsThere a imports t (ends.Ready i start) u = subst (λ x. IsThere a imports t x u) is there in
+    made_ready m s a t imports k u start r f h b.0 b.1 b.3 q (l ∙ ap (λ (j : Instance). slice_index_or j.funcs k (func_addr 0)) g.1)
+
+ready_by : (m : Module) (s : State) (a : ModuleAddr) (t : Store) (imports : Instance) (k : ℕ) (u : Store) (i : InstAddr) (start : Option FuncAddr) (o : Option End) → IsMade m s a t imports → Instantiates a imports t (ends.Ready i start) u
+    → IfSome o (λ e. started start (record { store = u; left = s.left }) ≡ Err e) → IfSome o (λ e. instance_with m k s ≡ Err e)
+ready_by m s a t imports k u i start None h b q = tt
+ready_by m s a t imports k u i start (Some e) h b q = made_stopped m s a t imports k u start e h b.0 b.1 b.3 q
+
+-- its start function stops the run
+pub ready_stops : (m : Module) (s : State) (a : ModuleAddr) (t : Store) (imports : Instance) (k : ℕ) (u : Store) (i : InstAddr) (start : Option FuncAddr) (d : Instantiated) (stop : Stop) → IsMade m s a t imports
+    → Instantiates a imports t d u → d ≡ ends.Ready i start → Ends stop (started start (record { store = u; left = s.left })) → Ends stop (instance_with m k s)
+ready_stops m s a t imports k u i start d stop h e is q = ready_by m s a t imports k u i start (end_of stop) h (subst (λ x. Instantiates a imports t x u) is e) q
+
+pub ready_callable : ModulesStay → FunctionOfIndex → (m : Module) (s : State) (a : ModuleAddr) (t : Store) (imports : Instance) (k : ℕ) (u : Store) (i : InstAddr) (start : Option FuncAddr) (d : Instantiated) (f : FuncAddr) → IsMade m s a t imports
+    → a.0 < length t.modules → IsLater t u → m.imports ≡ [] → has_word_type (own_type m k) ≡ true → IsThere a imports t d u → d ≡ ends.Ready i start → f ≡ slice_index_or (instance_at u i).funcs k (func_addr 0) → IsCallable u f
+ready_callable stay index m s a t imports k u i start d f h live later none word there is l =
+    let g : IsThere a imports t (ends.Ready i start) u = subst (λ x. IsThere a imports t x u) is there in
+    let b : module_at u (instance_at u i).module ≡ m = ap (λ (j : Instance). module_at u j.module) g.1 ∙ (stay t u a later live).1 ∙ h.module in
+    subst (IsCallable u) (sym l) (own_callable index u (instance_at u i) m k g.2 b none word)
+
+pub trapped_is : (m : Module) (s : State) (a : ModuleAddr) (t : Store) (imports : Instance) (k : ℕ) (u : Store) (cause : Trap) (d : Instantiated) → IsMade m s a t imports → Instantiates a imports t d u → d ≡ ends.Trapped cause → instance_with m k s ≡ Err runtime_error
+trapped_is m s a t imports k u cause d h e is =
+    let b : Instantiates a imports t (ends.Trapped cause) u = subst (λ x. Instantiates a imports t x u) is e in
+    made_trapped m s a t imports k u cause h b.0 b.1

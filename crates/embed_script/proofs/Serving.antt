@@ -1,14 +1,13 @@
 -- The functions of a run may be called, and go on so.
-use Rattle.std.proofs.Common.{◌≡◌, ℕ, suc, ◌+◌, ◌<◌, List, [], ◌∷◌, ◌++◌, Option, Some, None, Bool, true, false, ◌&&◌, cond, length, map, refl, sym, ap, ◌∙◌, subst, arith, String, Global, string_bytes}
+use Rattle.std.proofs.Common.{◌≡◌, ℕ, List, [], ◌∷◌, Option, Some, None, Bool, true, false, ◌&&◌, cond, length, map, refl, sym, ap, ◌∙◌, subst, arith, String, Global, string_bytes}
 use Rattle.std.proofs.lemmas.Map.Text.{hash_map_updates_text}
 use Rattle.std.specs.HashMap as hash
-use Rattle.std.specs.List.{AllZip, list_all}
+use Rattle.std.specs.List.{All, AllZip, list_all}
 use Rattle.std.specs.Option.{option_map}
 use Rattle.std.specs.Str.{bytes_eq}
 use Rattle.std.specs.String.{string_eq}
 use Rattle.wasm_syntax.specs.declared.types.ValType.{ValType}
 use Rattle.wasm_syntax.specs.declared.types.ValType.TheVariants as v
-use Rattle.wasm_syntax.specs.declared.types.FuncType.{FuncType}
 use Rattle.wasm_syntax.specs.declared.value.Value.{Value as WasmValue}
 use Rattle.wasm_syntax.specs.declared.value.Value.TheVariants as w
 use Rattle.wasm_syntax.specs.declared.addresses.FuncAddr.{FuncAddr}
@@ -16,12 +15,15 @@ use Rattle.std.proofs.lemmas.List.Elements.{All-weaker}
 use Rattle.wasm_syntax.specs.declared.module.Module.{Module}
 use Rattle.wasm_store.specs.declared.instances.FuncInst.{FuncInst}
 use Rattle.wasm_store.specs.declared.instances.FuncInst.TheVariants as kind
-use Rattle.wasm_store.specs.Store.{Store, type_of, function_at, no_function, with_module}
-use Rattle.wasm_store.specs.Whole.{HasType, HasCode, IsLater}
+use Rattle.wasm_store.specs.Store.{Store, type_of, function_at, no_function, with_module, empty_store, blank}
+use Rattle.wasm_store.specs.Whole.{HasType, HasCode, IsBlank, IsLater}
 use Rattle.wasm_store.specs.Laws.{FunctionsStay}
 use Rattle.wasm_machine.specs.Entering.{CanEnter}
 use Rattle.wasm_instance.specs.Laws.{IsStart}
-use Rattle.wasm_calls.specs.Answers.{AllHaveCode}
+use Rattle.wasm_store.specs.declared.instances.Instance.{Instance}
+use Rattle.std.specs.Prelude.{slice_index_or}
+use Rattle.std.specs.Map.{lookup}
+use Rattle.wasm_calls.specs.Answers.{AllHaveCode, HasSameCode}
 use Rattle.embed_script.specs.declared.value.Bound.{Bound}
 use Rattle.embed_script.specs.Functions.{is_i32, are_i32, is_one_i32, is_word_type, parameters_of}
 use Rattle.embed_script.specs.Evaluation.{Binding, value, function}
@@ -106,3 +108,23 @@ code_there m s (kind.Suspending ty callee) h = h
 -- one module more takes no code away
 pub code_with : (m : Module) (s t : Store) → t ≡ with_module m s → AllHaveCode s → AllHaveCode t
 code_with m s t e h = subst AllHaveCode (sym e) (All-weaker (HasCode s) (HasCode (with_module m s)) (code_there m s) s.functions h)
+
+same_code_there : (s t : Store) → HasSameCode s t → (g : FuncInst) → HasCode s g → HasCode t g
+same_code_there s t c (kind.Wasm ty i x) h =
+    subst (λ (j : Instance). IsBlank j → ⊥) (sym (ap (λ (xs : List Instance). slice_index_or xs i.0 (blank (record { 0 = 0 }))) c.instances)) h
+same_code_there s t c (kind.Host ty callee) h = h
+same_code_there s t c (kind.Suspending ty callee) h = h
+
+-- the same code is there
+pub code_same : (s t : Store) → HasSameCode s t → AllHaveCode s → AllHaveCode t
+code_same s t c h = subst (All (HasCode t)) (sym c.functions) (All-weaker (HasCode s) (HasCode t) (same_code_there s t c) s.functions h)
+
+-- at first nothing is there
+pub serves_none : (names : Names) (s : Store) → hash.IsEmpty names → s ≡ empty_store → Serves names s
+serves_none names s none e =
+    record {
+      code = subst AllHaveCode (sym e) (λ k d lt. absurd (omega (arith, lt)));
+      callable = λ name.
+          let n : option_map binding_of (hash.get_by_text names name) ≡ None = ap (λ es. option_map binding_of (lookup (λ k. bytes_eq name (string_bytes k)) es)) none in
+          subst (BindingServes s) (sym n) tt;
+    }

@@ -1,5 +1,5 @@
 ghost use Rattle.std.specs.Prelude.{◌≡◌, ◌++◌, OnOk, string_bytes};
-ghost use Rattle.embed_script.specs.Ends.{outside, past_budget, uncaught};
+ghost use Rattle.embed_script.specs.Ends.{outside, past_budget, compile_error, runtime_error, range_error};
 ghost use Rattle.embed_script.specs.Outcome.{end_line, place_text};
 
 use embed_base::{Outside, Place};
@@ -27,14 +27,25 @@ pub(crate) fn add_refusal(text: &mut String, refusal: Outside) -> Result<(), All
     Ok(())
 }
 
-/// Adds the line that tells an exception that nothing catches, by its shown form.
-pub(crate) fn add_exception(text: &mut String, shown: &str) -> Result<(), AllocError>
-    ensures { OnOk result (string_bytes text.new ≡ string_bytes text.old ++ end_line (uncaught shown.now)) }
+/// Adds the line that tells that bytes are no valid module.
+pub(crate) fn add_compile_error(text: &mut String) -> Result<(), AllocError>
+    ensures { OnOk result (string_bytes text.new ≡ string_bytes text.old ++ end_line compile_error) }
 {
-    text.push_str("uncaught: ")?;
-    text.push_str(shown)?;
-    text.push_str("\n")?;
-    Ok(())
+    text.push_str("uncaught: CompileError\n")
+}
+
+/// Adds the line that tells a trap.
+pub(crate) fn add_runtime_error(text: &mut String) -> Result<(), AllocError>
+    ensures { OnOk result (string_bytes text.new ≡ string_bytes text.old ++ end_line runtime_error) }
+{
+    text.push_str("uncaught: RuntimeError\n")
+}
+
+/// Adds the line that tells a call or a table past a limit.
+pub(crate) fn add_range_error(text: &mut String) -> Result<(), AllocError>
+    ensures { OnOk result (string_bytes text.new ≡ string_bytes text.old ++ end_line range_error) }
+{
+    text.push_str("uncaught: RangeError\n")
 }
 
 /// Adds the line that tells a charge above what was left of the budget.

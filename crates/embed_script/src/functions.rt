@@ -47,7 +47,10 @@ pub(crate) fn run(
 fn arguments(alloc: Global, words: &[u32]) -> Result<Vec<WasmValue>, AllocError>
     ensures { IfOk result (λ args. args.items ≡ map wasm.I32 words.now) }
 {
-    words.iter().map(|word| WasmValue::I32(*word)).collect(alloc)
+    words
+        .iter()
+        .map(|word| WasmValue::I32(*word))
+        .collect(alloc)
 }
 
 /// A result, as a signed Number.

@@ -12,7 +12,9 @@ ghost use Rattle.embed_script.specs.ModuleFiles.{AreDecodings};
 ghost use Rattle.embed_script.specs.Runs.{StatementShows, HasPrinted, Performs};
 
 use crate::charge::{CALL, STATEMENT, charge};
-use crate::end_line::{add_charge, add_exception, add_refusal};
+use crate::end_line::{
+    add_charge, add_compile_error, add_range_error, add_refusal, add_runtime_error,
+};
 use crate::evaluate::{Names, evaluate};
 use crate::instances::instance;
 use crate::module_file::ModuleFile;
@@ -203,21 +205,21 @@ impl Run {
         match stop {
             Stop::NoMemory => Err(AllocError),
             Stop::CompileError => {
-                add_exception(&mut text, "CompileError")?;
+                add_compile_error(&mut text)?;
                 Ok(Transcript {
                     status: Status::Uncaught,
                     text: PlainString::from_string(text),
                 })
             }
             Stop::RuntimeError => {
-                add_exception(&mut text, "RuntimeError")?;
+                add_runtime_error(&mut text)?;
                 Ok(Transcript {
                     status: Status::Uncaught,
                     text: PlainString::from_string(text),
                 })
             }
             Stop::RangeError => {
-                add_exception(&mut text, "RangeError")?;
+                add_range_error(&mut text)?;
                 Ok(Transcript {
                     status: Status::Uncaught,
                     text: PlainString::from_string(text),

@@ -1,13 +1,14 @@
-use Rattle.std.proofs.Common.{refl, ◌≡◌, length, arith, ◌∙◌, sym, ap}
+use Rattle.std.proofs.Common.{◌≡◌, length, arith, ◌∙◌, sym, ap}
 use Rattle.embed_script.specs.Outcome.{going, performed, run_of, transcript_of}
 use Rattle.embed_script.proofs.Runs.{begun_left, first_left, performed_left, stopped_left, done_outcome, all_left, cut_first}
+use Rattle.embed_script.proofs.Serving.{serves_none}
 use Rattle.embed_script.proofs.run.perform_all.Goals as goal
 
 pub loop-id-init : goal.loop-id-init
 loop-id-init c = record {
   shown = λ d shows. all_left d c.args.nodes.now c.args.ids.now shows;
   run = λ d shows modules decoded. begun_left modules c.args.nodes.now c.args.budget d c.args.ids.now (record { names = c.new.result; state = record { store = c.new-2.result; left = c.args.budget }; text = c.new-3.result }) shows c.new.ensures.empty c.new-3.ensures.bytes (ap (λ s. record { store = s; left = c.args.budget }) c.new-2.ensures);
-  serves = ?;
+  serves = serves_none c.new.result c.new-2.result c.new.ensures.empty c.new-2.ensures;
 }
 
 pub perform-requires-clause-shows : goal.perform-requires-clause-shows
