@@ -26,13 +26,16 @@ printf 'print("a", 6 * 7);\nprint();\n' >done.js
 printf 'print(1);\nlet f = new WebAssembly.Instance(new WebAssembly.Module(readbuffer("m"))).exports.f;\n' >loads.js
 printf '\0asm\1\0\0\0\1' >cut.wasm
 printf 'print("b" - 1);' >left.js
+printf 'let fib = new WebAssembly.Instance(new WebAssembly.Module(readbuffer("fib"))).exports.fib;\nprint(fib(10001));\n' >deep.js
 printf 'print(' >refused.js
 head -c 1048577 /dev/zero | tr '\0' ' ' >long.js
 head -c 1048576 /dev/zero | tr '\0' ' ' >longest.js
 
 ends 0 'a 42\n\n' run done.js
 ends 0 '' run longest.js
+ends 0 '6765 55\n' run --module "fib=$here/examples/fib.wasm" "$here/examples/fib.js"
 ends 1 '1\nuncaught: CompileError\n' run --module m=cut.wasm loads.js
+ends 1 'uncaught: RangeError\n' run --module "fib=$here/examples/fib.wasm" deep.js
 ends 2 'usage: jspirun run [--steps N] [--module NAME=PATH]... SCRIPT\n'
 ends 2 'usage: jspirun run [--steps N] [--module NAME=PATH]... SCRIPT\n' run -- done.js
 ends 3 'script: not yet\n' run refused.js
