@@ -8,6 +8,7 @@ pub mod Serving
 pub mod Made
 pub mod Runs
 pub mod Loads
+pub mod Loaded
 pub mod Arguments
 pub mod Effects
 mod Cases
