@@ -4,7 +4,8 @@ ghost use Rattle.std.specs.Prelude.{◌≡◌};
 
 use crate::modules::{
     CONTROL, GLOBALS, LARGE, LOCALS, NUMBERS_32, NUMBERS_64, SEGMENT_AT_END, SEGMENT_PAST_END,
-    START, START_AFTER_SEGMENTS, START_LOOPS, START_RECURS, START_TRAPS, TABLES, TOO_LARGE, TRAPS,
+    SEVEN_IN_A_TABLE, START, START_AFTER_SEGMENTS, START_LOOPS, START_RECURS, START_TRAPS, TABLES,
+    TOO_LARGE, TRAPS, WITH_A_MEMORY, WITH_AN_IMPORT,
 };
 use embed_base::{SureFiles, SureSink};
 use embed_cmd::run_main;
@@ -518,5 +519,48 @@ fn charges_of_growths_and_start_functions(rt: HostRuntime) -> Result<(), Fail> {
         writes(alloc, "--steps=1000", START_LOOPS.as_slice(), &ENDLESS)?,
         "no end"
     );
+    Ok(())
+}
+
+/// Functions of i32 parameters and one i32 result are called; other exports aren't yet.
+static EXPORTS: [Case; 4] = [
+    ("f", "print(f());", "Done|7\n"),
+    ("g", "print(1);", "Outside|outside: not-yet at 0\n"),
+    ("t", "print(1);", "Outside|outside: not-yet at 0\n"),
+    ("h", "print(1);", "Outside|outside: not-yet at 0\n"),
+];
+
+/// A module that isn't instantiated yet: its start function doesn't run.
+static NOT_YET: [Case; 1] = [("f", "print(1);", "Outside|outside: not-yet at 0\n")];
+
+/// The fourth charge comes before that.
+static THREE_UNITS: Case = ("f", "print(1);", "Budget|budget: needs 1, left 0\n");
+
+static FOUR_UNITS: Case = ("f", "print(1);", "Outside|outside: not-yet at 0\n");
+
+#[test]
+fn what_a_script_may_call_of_a_module(rt: HostRuntime) -> Result<(), Fail> {
+    let alloc = rt.alloc();
+    assert_eq!(rt;
+        right(alloc, SEVEN_IN_A_TABLE.as_slice(), EXPORTS.as_slice())?,
+        4
+    );
+    assert_eq!(rt;
+        right(alloc, WITH_A_MEMORY.as_slice(), NOT_YET.as_slice())?,
+        1
+    );
+    assert_eq!(rt;
+        right(alloc, WITH_AN_IMPORT.as_slice(), NOT_YET.as_slice())?,
+        1
+    );
+    Ok(())
+}
+
+#[test]
+fn the_fourth_charge_comes_before_not_yet(rt: HostRuntime) -> Result<(), Fail> {
+    let alloc = rt.alloc();
+    let bytes = WITH_A_MEMORY.as_slice();
+    assert!(rt; writes(alloc, "--steps=3", bytes, &THREE_UNITS)?, "3 units");
+    assert!(rt; writes(alloc, "--steps=4", bytes, &FOUR_UNITS)?, "4 units");
     Ok(())
 }
