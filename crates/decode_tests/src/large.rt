@@ -47,12 +47,19 @@ fn are_blocks_in_order(module: &Module, count: u32) -> bool {
     next == count
 }
 
+/// Whether a module of these bytes so many times over has a block for each, in order, and one that holds them.
+fn has_blocks_in_order(alloc: Global, block: &[u8], count: u32) -> Result<bool, Fail> {
+    let code = repeated(alloc, block, count)?;
+    let module = body(alloc, code.as_slice())??;
+    Ok(
+        module.blocks.len() == (count as usize).saturating_add(1)
+            && are_blocks_in_order(&module, count),
+    )
+}
+
 #[test]
-fn a_hundred_thousand_blocks_side_by_side(rt: HostRuntime) -> Result<(), Fail> {
-    let code = repeated(rt.alloc(), &[0x02, 0x40, 0x0B], 100_000)?;
-    let module = body(rt.alloc(), code.as_slice())??;
-    assert_eq!(rt; module.blocks.len(), 100_001);
-    assert!(rt; are_blocks_in_order(&module, 100_000));
+fn a_million_blocks_side_by_side(rt: HostRuntime) -> Result<(), Fail> {
+    assert!(rt; has_blocks_in_order(rt.alloc(), &[0x02, 0x40, 0x0B], 1_000_000)?);
     Ok(())
 }
 

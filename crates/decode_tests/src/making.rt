@@ -31,16 +31,17 @@ pub fn sections(alloc: Global, sections: &[u8]) -> Result<Result<Module, DecodeE
     decoded(alloc, bytes.as_slice())
 }
 
-/// A size below 2^21, in three bytes.
-fn size(number: usize) -> [u8; 3] {
-    let low = (number % 128) as u8 + 128;
-    let middle = (number / 128 % 128) as u8 + 128;
-    let high = (number / 16384 % 128) as u8;
-    [low, middle, high]
+/// A size below 2^28, in four bytes.
+fn size(number: usize) -> [u8; 4] {
+    let first = (number % 128) as u8 + 128;
+    let second = (number / 128 % 128) as u8 + 128;
+    let third = (number / 16384 % 128) as u8 + 128;
+    let fourth = (number / 2097152 % 128) as u8;
+    [first, second, third, fourth]
 }
 
 /// Where a body begins in the module that is made for it.
-pub const BODY: u64 = 27;
+pub const BODY: u64 = 29;
 
 /// A module of one function without parameters, results and locals, whose code these bytes are.
 pub fn with_body(alloc: Global, code: &[u8]) -> Result<Vec<u8>, Fail> {
@@ -48,7 +49,7 @@ pub fn with_body(alloc: Global, code: &[u8]) -> Result<Vec<u8>, Fail> {
     bytes.extend_from_slice(b"\0asm\x01\0\0\0")?;
     bytes.extend_from_slice(&[0x01, 0x04, 0x01, 0x60, 0x00, 0x00, 0x03, 0x02, 0x01, 0x00])?;
     bytes.push(0x0A)?;
-    bytes.extend_from_slice(&size(code.len().saturating_add(5)))?;
+    bytes.extend_from_slice(&size(code.len().saturating_add(6)))?;
     bytes.push(0x01)?;
     bytes.extend_from_slice(&size(code.len().saturating_add(1)))?;
     bytes.push(0x00)?;

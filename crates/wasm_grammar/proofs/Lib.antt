@@ -1,4 +1,5 @@
 pub mod Steps
+pub mod RowLaws
 pub mod Integers
 pub mod Groups
 pub mod Texts

@@ -9,7 +9,7 @@ use Rattle.wasm_grammar.specs.declared.tokens.Token.{Token}
 use Rattle.wasm_grammar.specs.declared.tokens.Token.TheVariants as t
 use Rattle.wasm_grammar.specs.Forms.{Items}
 use Rattle.wasm_grammar.specs.Reading.{◌>>=◌}
-use Rattle.wasm_grammar.specs.Opcodes.{shape_of}
+use Rattle.wasm_grammar.specs.Opcodes.{rows, shape_of}
 use Rattle.wasm_grammar.specs.Instructions.{TokenTree, make_token, IsToken, token_in}
 use Rattle.wasm_grammar.specs.Instructions as u
 use Rattle.wasm_grammar.specs.Code.{Code, plain_token, done, plain, block, loop, choice, choice_one, tokens, make_block, make_code, IsExpression, make_expression}
@@ -53,7 +53,7 @@ not_last s tok s' h = not_last_in s.levels tok (steps s tok s' h)
 
 -- no token of a code entry begins with that byte
 pub no_simd : (e : Bool) (after : ℕ) (front rest : List ℕ) (u : TokenTree) → IsToken e after front u → (e && begins_simd (front ++ rest)) ≡ false
-unfolding shape_of
+unfolding rows shape_of
 no_simd false after front rest u p = refl
 no_simd true after [] rest u p = absurd p
 no_simd true after (b ∷ bs) rest u p = ne_eqb b 253 (λ (same : b ≡ 253). let q : IsToken true after (253 ∷ bs) u = subst (λ (k : ℕ). IsToken true after (k ∷ bs) u) same p in q)

@@ -8,6 +8,7 @@ pub mod Choices
 pub mod Leaves
 pub mod Types
 pub mod Opcodes
+pub mod Rows
 pub mod Instructions
 pub mod Entries
 pub mod Code

@@ -13,10 +13,10 @@ use std::alloc::{AllocError, Global};
 use wasm_syntax::{BlockId, BlockType, IfParts, Instr};
 
 /// From more instructions on, a block keeps the room in which it was read.
-const LONG: usize = 64;
+const LONG: usize = 4096;
 
 /// What an open block is. The second part of an `if` has the number of the first one.
-#[derive(Debug, Drop)]
+#[derive(Drop)]
 pub enum Kind {
     Block(BlockType),
     Loop(BlockType),
@@ -25,21 +25,21 @@ pub enum Kind {
 }
 
 /// An open block, and the instructions that stand before it.
-#[derive(Debug, Drop)]
+#[derive(Drop)]
 pub struct Level {
     pub kind: Kind,
     pub before: Items<Instr>,
 }
 
 /// The instructions of the innermost open block so far, and the open blocks, the innermost one last.
-#[derive(Debug, Drop)]
+#[derive(Drop)]
 pub struct Open {
     pub instrs: Items<Instr>,
     pub levels: Items<Level>,
 }
 
-/// The same instructions in no more room than they take: a list that grows has room for four at least. A long one is left as it
-/// is, since it takes as much again at the most.
+/// The same instructions in no more room than they take: a list that grows has room for four at least, and for twice as many at the
+/// most. A long one is left as it is, since its copy takes as much again while both are there.
 fn fitted(alloc: Global, instrs: Items<Instr>) -> Result<Items<Instr>, AllocError>
     ensures { IfOk result (λ it. it ≡ instrs) }
 {

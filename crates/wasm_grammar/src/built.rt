@@ -14,7 +14,7 @@ pub enum Foreign {
 }
 
 /// A foreign type or instruction in a module, and how many bytes of the file its first byte begins.
-#[derive(Clone, Copy, PartialEq, Eq, Debug)]
+#[derive(Clone, Copy)]
 pub struct Leaf {
     pub left: u64,
     pub what: Foreign,
@@ -22,7 +22,7 @@ pub struct Leaf {
 
 /// The blocks that have ended, by their numbers, the first foreign leaf, and whether an instruction of a function's code names a
 /// data segment.
-#[derive(Debug, Drop)]
+#[derive(Drop)]
 pub struct Built {
     pub blocks: Items<Items<Instr>>,
     pub first: Option<Leaf>,

@@ -16,7 +16,7 @@ use std::alloc::Global;
 use wasm_syntax::{BlockId, GlobalDef, ValType};
 
 /// A function without its type: its locals as runs of one type each, and its body.
-#[derive(Debug, Drop)]
+#[derive(Drop)]
 pub struct CodeEntry {
     pub locals: Items<(u32, ValType)>,
     pub body: BlockId,

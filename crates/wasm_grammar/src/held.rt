@@ -10,7 +10,7 @@ use std::alloc::Global;
 use wasm_syntax::{Data, Elem, Export, FuncType, GlobalDef, Import, Limit, TableType};
 
 /// What a section holds.
-#[derive(Debug, Drop)]
+#[derive(Drop)]
 pub enum Held {
     /// A custom section, which is skipped.
     Nothing,
@@ -30,7 +30,7 @@ pub enum Held {
 }
 
 /// What all sections hold.
-#[derive(Debug, Drop)]
+#[derive(Drop)]
 pub struct Parts {
     pub types: Items<FuncType>,
     pub imports: Items<Import>,

@@ -7,7 +7,7 @@ ghost use Rattle.wasm_grammar.specs.Reading.{leb_at, u32_at, word_of, s32_at, ty
 use crate::fault::ReadError;
 
 /// A number that so many groups of seven bits spell, and the first one that they can't.
-#[derive(Clone, Copy, PartialEq, Eq, Debug)]
+#[derive(Clone, Copy)]
 struct Leb {
     number: u128,
     top: u128,

@@ -4,16 +4,17 @@ ghost use Rattle.std.specs.Prelude.{◌≡◌, ◌≤◌, ◌<◌, ◌+◌, ◌^
 ghost use Rattle.wasm_grammar.specs.Answers.{Gives};
 ghost use Rattle.wasm_grammar.specs.declared.built.Built.{Built as BuiltValue};
 ghost use Rattle.wasm_grammar.specs.Reading.{run_at};
-ghost use Rattle.wasm_grammar.specs.Opcodes.{float_bytes};
 ghost use Rattle.wasm_grammar.specs.Opcodes as table;
+ghost use Rattle.wasm_grammar.specs.Rows as says;
+ghost use Rattle.wasm_grammar.specs.declared.opcodes.Row.TheVariants as r;
 ghost use Rattle.wasm_grammar.specs.Instructions.{block_type_in, mem_arg_at, vector_constant_at, zero_in, with_data, shaped_in, prefixed_in, vector_constant_in, token_in};
 
 use crate::built::{Built, Foreign, Leaf, note};
 use crate::fault::ReadError;
 use crate::numbers::{s32_of, s64_of, type_index_of, u32_of};
 use crate::opcodes::{
-    i32_arithmetic, i32_bitwise, i32_test, i64_arithmetic, i64_bitwise, i64_test, is_float,
-    is_float_access, load, store,
+    Access, Index, Opening, Pair, Row, Zero, access_instr, bulk_row_of, index_instr, pair_instr,
+    plain_instr, row_of, zero_instr,
 };
 use crate::types::{ref_type_of, val_type_of};
 use crate::vectors::vector_of;
@@ -22,7 +23,7 @@ use std::alloc::Global;
 use wasm_syntax::{BlockType, Instr, MemArg, ValType};
 
 /// An instruction, or where a block begins, goes on with its second part, or ends.
-#[derive(Debug, Drop)]
+#[derive(Drop)]
 pub enum Token {
     Plain(Instr),
     /// A foreign instruction, which was noted.
@@ -112,160 +113,175 @@ fn note_data(in_code: bool, built: &mut Built)
     }
 }
 
-/// The token of a control instruction, whose opcode was read.
+/// The token of an instruction with an index.
 #[tactic(auto, unfolding(crate::specs::Instructions::shaped_in))]
-fn control_of<'a>(
-    op: u8,
-    built: &mut Built,
-    after: u64,
-    bytes: &'a [u8],
-) -> Result<(Token, &'a [u8]), ReadError>
-    requires { length built.old.blocks + after + length bytes.now < 2 ^ 32 }
-    ensures room { IfOk result (λ x. length built.new.blocks + length x.1.now ≤ length built.old.blocks + length bytes.now) }
-    ensures gives { (in_code : Bool) → Gives (λ x. ((x.0, built.new), x.1.now)) result (shaped_in in_code (table.control_shape op) built.old after bytes.now) }
+fn index_of(what: Index, bytes: &[u8]) -> Result<(Token, &[u8]), ReadError>
+    ensures shorter { IfOk result (λ x. length x.1.now ≤ length bytes.now) }
+    ensures gives { (in_code : Bool) (s : BuiltValue) (after : ℕ) → Gives (λ x. ((x.0, s), x.1.now)) result (shaped_in in_code (table.one_index (says.index_instr what)) s after bytes.now) }
 {
-    match op {
-        0x00 => Ok((Token::Plain(Instr::Unreachable), bytes)),
-        0x01 => Ok((Token::Plain(Instr::Nop), bytes)),
-        0x02 => {
-            let (block_type, rest) = block_type_of(built, after, bytes)?;
-            Ok((Token::Block(block_type), rest))
-        }
-        0x03 => {
-            let (block_type, rest) = block_type_of(built, after, bytes)?;
-            Ok((Token::Loop(block_type), rest))
-        }
-        0x04 => {
-            let (block_type, rest) = block_type_of(built, after, bytes)?;
-            Ok((Token::If(block_type), rest))
-        }
-        0x05 => Ok((Token::Else, bytes)),
-        0x0B => Ok((Token::End, bytes)),
-        _ => Err(ReadError::Malformed),
-    }
+    let (index, rest) = u32_of(bytes)?;
+    Ok((Token::Plain(index_instr(what, index)), rest))
 }
 
-/// The token of a branch, a return or a call, whose opcode was read.
+/// The token of an instruction with two indices.
 #[tactic(auto, unfolding(crate::specs::Instructions::shaped_in))]
-fn branch_of<'a>(
-    alloc: Global,
-    op: u8,
-    built: &mut Built,
-    after: u64,
-    bytes: &'a [u8],
-) -> Result<(Token, &'a [u8]), ReadError>
-    requires { length built.old.blocks + after + length bytes.now < 2 ^ 32 }
-    ensures room { IfOk result (λ x. length built.new.blocks + length x.1.now ≤ length built.old.blocks + length bytes.now) }
-    ensures gives { (in_code : Bool) → Gives (λ x. ((x.0, built.new), x.1.now)) result (shaped_in in_code (table.branch_shape op) built.old after bytes.now) }
+fn pair_of(what: Pair, bytes: &[u8]) -> Result<(Token, &[u8]), ReadError>
+    ensures shorter { IfOk result (λ x. length x.1.now ≤ length bytes.now) }
+    ensures gives { (in_code : Bool) (s : BuiltValue) (after : ℕ) → Gives (λ x. ((x.0, s), x.1.now)) result (shaped_in in_code (table.indices (says.pair_instr what)) s after bytes.now) }
 {
-    match op {
-        0x0C => {
-            let (index, rest) = u32_of(bytes)?;
-            Ok((Token::Plain(Instr::Br(index)), rest))
-        }
-        0x0D => {
-            let (index, rest) = u32_of(bytes)?;
-            Ok((Token::Plain(Instr::BrIf(index)), rest))
-        }
-        0x0E => {
-            let (labels, rest) = vector_of::<u32>(alloc, built, after, bytes)?;
-            let (default, rest) = u32_of(rest)?;
-            let labels = Boxed::new(alloc, labels)?;
-            Ok((Token::Plain(Instr::BrTable { default, labels }), rest))
-        }
-        0x0F => Ok((Token::Plain(Instr::Return), bytes)),
-        0x10 => {
-            let (index, rest) = u32_of(bytes)?;
-            Ok((Token::Plain(Instr::Call(index)), rest))
-        }
-        0x11 => {
-            let (ty, rest) = u32_of(bytes)?;
-            let (table, rest) = u32_of(rest)?;
-            Ok((Token::Plain(Instr::CallIndirect { ty, table }), rest))
-        }
-        _ => Err(ReadError::Malformed),
-    }
+    let (first, rest) = u32_of(bytes)?;
+    let (second, rest) = u32_of(rest)?;
+    Ok((Token::Plain(pair_instr(what, first, second)), rest))
 }
 
-/// The token of a parametric instruction, or of one of a variable or table entry, whose opcode was read.
+/// The token of an access of a memory.
 #[tactic(auto, unfolding(crate::specs::Instructions::shaped_in))]
-fn variable_of<'a>(
-    alloc: Global,
-    op: u8,
-    built: &mut Built,
-    after: u64,
-    bytes: &'a [u8],
-) -> Result<(Token, &'a [u8]), ReadError>
-    requires { length built.old.blocks + after + length bytes.now < 2 ^ 32 }
-    ensures room { IfOk result (λ x. length built.new.blocks + length x.1.now ≤ length built.old.blocks + length bytes.now) }
-    ensures gives { (in_code : Bool) → Gives (λ x. ((x.0, built.new), x.1.now)) result (shaped_in in_code (table.variable_shape op) built.old after bytes.now) }
+fn access_of(what: Access, bytes: &[u8]) -> Result<(Token, &[u8]), ReadError>
+    ensures shorter { IfOk result (λ x. length x.1.now ≤ length bytes.now) }
+    ensures gives { (in_code : Bool) (s : BuiltValue) (after : ℕ) → Gives (λ x. ((x.0, s), x.1.now)) result (shaped_in in_code (table.access (says.access_instr what)) s after bytes.now) }
 {
-    match op {
-        0x1A => Ok((Token::Plain(Instr::Drop), bytes)),
-        0x1B => Ok((Token::Plain(Instr::Select), bytes)),
-        0x1C => {
-            let (types, rest) = vector_of::<ValType>(alloc, built, after, bytes)?;
-            let types = Boxed::new(alloc, types)?;
-            Ok((Token::Plain(Instr::SelectTyped(types)), rest))
-        }
-        0x20 => {
-            let (index, rest) = u32_of(bytes)?;
-            Ok((Token::Plain(Instr::LocalGet(index)), rest))
-        }
-        0x21 => {
-            let (index, rest) = u32_of(bytes)?;
-            Ok((Token::Plain(Instr::LocalSet(index)), rest))
-        }
-        0x22 => {
-            let (index, rest) = u32_of(bytes)?;
-            Ok((Token::Plain(Instr::LocalTee(index)), rest))
-        }
-        0x23 => {
-            let (index, rest) = u32_of(bytes)?;
-            Ok((Token::Plain(Instr::GlobalGet(index)), rest))
-        }
-        0x24 => {
-            let (index, rest) = u32_of(bytes)?;
-            Ok((Token::Plain(Instr::GlobalSet(index)), rest))
-        }
-        0x25 => {
-            let (index, rest) = u32_of(bytes)?;
-            Ok((Token::Plain(Instr::TableGet(index)), rest))
-        }
-        0x26 => {
-            let (index, rest) = u32_of(bytes)?;
-            Ok((Token::Plain(Instr::TableSet(index)), rest))
-        }
-        _ => Err(ReadError::Malformed),
-    }
-}
-
-/// The token of an access of a memory, whose opcode was read.
-#[tactic(auto, unfolding(crate::specs::Instructions::shaped_in))]
-fn memory_of<'a>(
-    op: u8,
-    built: &mut Built,
-    after: u64,
-    bytes: &'a [u8],
-) -> Result<(Token, &'a [u8]), ReadError>
-    requires { length built.old.blocks + after + length bytes.now + 1 < 2 ^ 32 }
-    ensures room { IfOk result (λ x. length built.new.blocks + length x.1.now ≤ length built.old.blocks + length bytes.now) }
-    ensures gives { (in_code : Bool) → Gives (λ x. ((x.0, built.new), x.1.now)) result (shaped_in in_code (table.memory_shape op) built.old after bytes.now) }
-{
-    let left = after + bytes.len() as u64 + 1;
     let (arg, rest) = mem_arg_of(bytes)?;
-    if is_float_access(op) {
-        let what = Foreign::Float;
-        note(built, Leaf { left, what });
-        return Ok((Token::Foreign, rest));
-    }
-    if op < 0x36 {
-        return Ok((Token::Plain(load(op, arg)), rest));
-    }
-    Ok((Token::Plain(store(op, arg)), rest))
+    Ok((Token::Plain(access_instr(what, arg)), rest))
 }
 
-/// The token of a floating instruction with so many bytes behind its opcode, which was read.
+/// The token of an instruction with one byte 00.
+#[tactic(auto, unfolding(crate::specs::Instructions::shaped_in))]
+fn zero_of(what: Zero, bytes: &[u8]) -> Result<(Token, &[u8]), ReadError>
+    ensures shorter { IfOk result (λ x. length x.1.now ≤ length bytes.now) }
+    ensures gives { (in_code : Bool) (s : BuiltValue) (after : ℕ) → Gives (λ x. ((x.0, s), x.1.now)) result (shaped_in in_code (table.zero (says.zero_instr what)) s after bytes.now) }
+{
+    let rest = behind_zero(bytes)?;
+    Ok((Token::Plain(zero_instr(what)), rest))
+}
+
+/// The token of a copy in a memory.
+#[tactic(auto, unfolding(crate::specs::Instructions::shaped_in))]
+fn memory_copy_of(bytes: &[u8]) -> Result<(Token, &[u8]), ReadError>
+    ensures shorter { IfOk result (λ x. length x.1.now ≤ length bytes.now) }
+    ensures gives { (in_code : Bool) (s : BuiltValue) (after : ℕ) → Gives (λ x. ((x.0, s), x.1.now)) result (shaped_in in_code (says.shape r.MemoryCopy) s after bytes.now) }
+{
+    let rest = behind_zero(bytes)?;
+    let rest = behind_zero(rest)?;
+    Ok((Token::Plain(Instr::MemoryCopy), rest))
+}
+
+/// The token of a constant of 32 bits.
+#[tactic(auto, unfolding(crate::specs::Instructions::shaped_in))]
+fn i32_const_of(bytes: &[u8]) -> Result<(Token, &[u8]), ReadError>
+    ensures shorter { IfOk result (λ x. length x.1.now ≤ length bytes.now) }
+    ensures gives { (in_code : Bool) (s : BuiltValue) (after : ℕ) → Gives (λ x. ((x.0, s), x.1.now)) result (shaped_in in_code (says.shape r.I32Const) s after bytes.now) }
+{
+    let (value, rest) = s32_of(bytes)?;
+    Ok((Token::Plain(Instr::I32Const(value)), rest))
+}
+
+/// The token of a constant of 64 bits.
+#[tactic(auto, unfolding(crate::specs::Instructions::shaped_in))]
+fn i64_const_of(bytes: &[u8]) -> Result<(Token, &[u8]), ReadError>
+    ensures shorter { IfOk result (λ x. length x.1.now ≤ length bytes.now) }
+    ensures gives { (in_code : Bool) (s : BuiltValue) (after : ℕ) → Gives (λ x. ((x.0, s), x.1.now)) result (shaped_in in_code (says.shape r.I64Const) s after bytes.now) }
+{
+    let (value, rest) = s64_of(bytes)?;
+    Ok((Token::Plain(Instr::I64Const(value)), rest))
+}
+
+/// The token of a null reference.
+#[tactic(auto, unfolding(crate::specs::Instructions::shaped_in))]
+fn ref_null_of(bytes: &[u8]) -> Result<(Token, &[u8]), ReadError>
+    ensures shorter { IfOk result (λ x. length x.1.now ≤ length bytes.now) }
+    ensures gives { (in_code : Bool) (s : BuiltValue) (after : ℕ) → Gives (λ x. ((x.0, s), x.1.now)) result (shaped_in in_code (says.shape r.RefNull) s after bytes.now) }
+{
+    let (ty, rest) = ref_type_of(bytes)?;
+    Ok((Token::Plain(Instr::RefNull(ty)), rest))
+}
+
+/// The token of a place where a block begins.
+#[tactic(auto, unfolding(crate::specs::Instructions::shaped_in))]
+fn opening_of<'a>(
+    what: Opening,
+    built: &mut Built,
+    after: u64,
+    bytes: &'a [u8],
+) -> Result<(Token, &'a [u8]), ReadError>
+    requires { length built.old.blocks + after + length bytes.now < 2 ^ 32 }
+    ensures room { IfOk result (λ x. length built.new.blocks + length x.1.now ≤ length built.old.blocks + length bytes.now) }
+    ensures gives { (in_code : Bool) → Gives (λ x. ((x.0, built.new), x.1.now)) result (shaped_in in_code (says.opening_shape what) built.old after bytes.now) }
+{
+    let (block_type, rest) = block_type_of(built, after, bytes)?;
+    match what {
+        Opening::Block => Ok((Token::Block(block_type), rest)),
+        Opening::Loop => Ok((Token::Loop(block_type), rest)),
+        Opening::If => Ok((Token::If(block_type), rest)),
+    }
+}
+
+/// The token of a branch by a table of labels.
+#[tactic(auto, unfolding(crate::specs::Instructions::shaped_in))]
+fn br_table_of<'a>(
+    alloc: Global,
+    built: &mut Built,
+    after: u64,
+    bytes: &'a [u8],
+) -> Result<(Token, &'a [u8]), ReadError>
+    requires { length built.old.blocks + after + length bytes.now < 2 ^ 32 }
+    ensures room { IfOk result (λ x. length built.new.blocks + length x.1.now ≤ length built.old.blocks + length bytes.now) }
+    ensures gives { (in_code : Bool) → Gives (λ x. ((x.0, built.new), x.1.now)) result (shaped_in in_code (says.shape r.BrTable) built.old after bytes.now) }
+{
+    let (labels, rest) = vector_of::<u32>(alloc, built, after, bytes)?;
+    let (default, rest) = u32_of(rest)?;
+    let labels = Boxed::new(alloc, labels)?;
+    Ok((Token::Plain(Instr::BrTable { default, labels }), rest))
+}
+
+/// The token of a selection with its result types.
+#[tactic(auto, unfolding(crate::specs::Instructions::shaped_in))]
+fn select_of<'a>(
+    alloc: Global,
+    built: &mut Built,
+    after: u64,
+    bytes: &'a [u8],
+) -> Result<(Token, &'a [u8]), ReadError>
+    requires { length built.old.blocks + after + length bytes.now < 2 ^ 32 }
+    ensures room { IfOk result (λ x. length built.new.blocks + length x.1.now ≤ length built.old.blocks + length bytes.now) }
+    ensures gives { (in_code : Bool) → Gives (λ x. ((x.0, built.new), x.1.now)) result (shaped_in in_code (says.shape r.SelectTyped) built.old after bytes.now) }
+{
+    let (types, rest) = vector_of::<ValType>(alloc, built, after, bytes)?;
+    let types = Boxed::new(alloc, types)?;
+    Ok((Token::Plain(Instr::SelectTyped(types)), rest))
+}
+
+/// The token of a copy of a data segment into a memory.
+#[tactic(auto, unfolding(crate::specs::Instructions::shaped_in))]
+fn memory_init_of<'a>(
+    in_code: bool,
+    built: &mut Built,
+    bytes: &'a [u8],
+) -> Result<(Token, &'a [u8]), ReadError>
+    ensures room { IfOk result (λ x. length built.new.blocks + length x.1.now ≤ length built.old.blocks + length bytes.now) }
+    ensures gives { (after : ℕ) → Gives (λ x. ((x.0, built.new), x.1.now)) result (shaped_in in_code (says.shape r.MemoryInit) built.old after bytes.now) }
+{
+    let (index, rest) = u32_of(bytes)?;
+    let rest = behind_zero(rest)?;
+    note_data(in_code, built);
+    Ok((Token::Plain(Instr::MemoryInit(index)), rest))
+}
+
+/// The token of a data segment that is let go.
+#[tactic(auto, unfolding(crate::specs::Instructions::shaped_in))]
+fn data_drop_of<'a>(
+    in_code: bool,
+    built: &mut Built,
+    bytes: &'a [u8],
+) -> Result<(Token, &'a [u8]), ReadError>
+    ensures room { IfOk result (λ x. length built.new.blocks + length x.1.now ≤ length built.old.blocks + length bytes.now) }
+    ensures gives { (after : ℕ) → Gives (λ x. ((x.0, built.new), x.1.now)) result (shaped_in in_code (says.shape r.DataDrop) built.old after bytes.now) }
+{
+    let (index, rest) = u32_of(bytes)?;
+    note_data(in_code, built);
+    Ok((Token::Plain(Instr::DataDrop(index)), rest))
+}
+
+/// The token of a floating instruction with so many bytes behind its opcode.
 #[tactic(auto, unfolding(crate::specs::Instructions::shaped_in))]
 fn float_of<'a>(
     count: usize,
@@ -275,7 +291,7 @@ fn float_of<'a>(
 ) -> Result<(Token, &'a [u8]), ReadError>
     requires { length built.old.blocks + after + length bytes.now + 1 < 2 ^ 32 }
     ensures room { IfOk result (λ x. length built.new.blocks + length x.1.now ≤ length built.old.blocks + length bytes.now) }
-    ensures gives { (in_code : Bool) → Gives (λ x. ((x.0, built.new), x.1.now)) result (shaped_in in_code (float_bytes count) built.old after bytes.now) }
+    ensures gives { (in_code : Bool) → Gives (λ x. ((x.0, built.new), x.1.now)) result (shaped_in in_code (table.float_bytes count) built.old after bytes.now) }
 {
     let left = after + bytes.len() as u64 + 1;
     let rest = behind_run(bytes, count)?;
@@ -284,230 +300,66 @@ fn float_of<'a>(
     Ok((Token::Foreign, rest))
 }
 
-/// The token of a constant or of the size of a memory, whose opcode was read.
+/// The token of an access that moves a floating number.
 #[tactic(auto, unfolding(crate::specs::Instructions::shaped_in))]
-fn constant_of<'a>(
-    op: u8,
+fn float_access_of<'a>(
     built: &mut Built,
     after: u64,
     bytes: &'a [u8],
 ) -> Result<(Token, &'a [u8]), ReadError>
     requires { length built.old.blocks + after + length bytes.now + 1 < 2 ^ 32 }
     ensures room { IfOk result (λ x. length built.new.blocks + length x.1.now ≤ length built.old.blocks + length bytes.now) }
-    ensures gives { (in_code : Bool) → Gives (λ x. ((x.0, built.new), x.1.now)) result (shaped_in in_code (table.constant_shape op) built.old after bytes.now) }
+    ensures gives { (in_code : Bool) → Gives (λ x. ((x.0, built.new), x.1.now)) result (shaped_in in_code table.float_access built.old after bytes.now) }
 {
-    match op {
-        0x3F => {
-            let rest = behind_zero(bytes)?;
-            Ok((Token::Plain(Instr::MemorySize), rest))
-        }
-        0x40 => {
-            let rest = behind_zero(bytes)?;
-            Ok((Token::Plain(Instr::MemoryGrow), rest))
-        }
-        0x41 => {
-            let (value, rest) = s32_of(bytes)?;
-            Ok((Token::Plain(Instr::I32Const(value)), rest))
-        }
-        0x42 => {
-            let (value, rest) = s64_of(bytes)?;
-            Ok((Token::Plain(Instr::I64Const(value)), rest))
-        }
-        0x43 => float_of(4, built, after, bytes),
-        0x44 => float_of(8, built, after, bytes),
-        _ => Err(ReadError::Malformed),
-    }
+    let left = after + bytes.len() as u64 + 1;
+    let (_, rest) = mem_arg_of(bytes)?;
+    let what = Foreign::Float;
+    note(built, Leaf { left, what });
+    Ok((Token::Foreign, rest))
 }
 
-/// The token of a conversion, whose opcode was read.
+/// The token of a row, whose opcode was read.
+#[inline(always)]
 #[tactic(auto, unfolding(crate::specs::Instructions::shaped_in))]
-fn conversion_of<'a>(
-    op: u8,
-    built: &mut Built,
-    after: u64,
-    bytes: &'a [u8],
-) -> Result<(Token, &'a [u8]), ReadError>
-    requires { length built.old.blocks + after + length bytes.now < 2 ^ 32 }
-    ensures room { IfOk result (λ x. length built.new.blocks + length x.1.now ≤ length built.old.blocks + length bytes.now) }
-    ensures gives { (in_code : Bool) → Gives (λ x. ((x.0, built.new), x.1.now)) result (shaped_in in_code (table.conversion_shape op) built.old after bytes.now) }
-{
-    match op {
-        0xA7 => Ok((Token::Plain(Instr::I32WrapI64), bytes)),
-        0xAC => Ok((Token::Plain(Instr::I64ExtendI32S), bytes)),
-        0xAD => Ok((Token::Plain(Instr::I64ExtendI32U), bytes)),
-        0xC0 => Ok((Token::Plain(Instr::I32Extend8S), bytes)),
-        0xC1 => Ok((Token::Plain(Instr::I32Extend16S), bytes)),
-        0xC2 => Ok((Token::Plain(Instr::I64Extend8S), bytes)),
-        0xC3 => Ok((Token::Plain(Instr::I64Extend16S), bytes)),
-        0xC4 => Ok((Token::Plain(Instr::I64Extend32S), bytes)),
-        _ => Err(ReadError::Malformed),
-    }
-}
-
-/// The token of a reference instruction, whose opcode was read.
-#[tactic(auto, unfolding(crate::specs::Instructions::shaped_in))]
-fn reference_of<'a>(
-    op: u8,
-    built: &mut Built,
-    after: u64,
-    bytes: &'a [u8],
-) -> Result<(Token, &'a [u8]), ReadError>
-    requires { length built.old.blocks + after + length bytes.now < 2 ^ 32 }
-    ensures room { IfOk result (λ x. length built.new.blocks + length x.1.now ≤ length built.old.blocks + length bytes.now) }
-    ensures gives { (in_code : Bool) → Gives (λ x. ((x.0, built.new), x.1.now)) result (shaped_in in_code (table.reference_shape op) built.old after bytes.now) }
-{
-    match op {
-        0xD0 => {
-            let (ty, rest) = ref_type_of(bytes)?;
-            Ok((Token::Plain(Instr::RefNull(ty)), rest))
-        }
-        0xD1 => Ok((Token::Plain(Instr::RefIsNull), bytes)),
-        0xD2 => {
-            let (index, rest) = u32_of(bytes)?;
-            Ok((Token::Plain(Instr::RefFunc(index)), rest))
-        }
-        _ => Err(ReadError::Malformed),
-    }
-}
-
-/// The token of an integer operation, whose opcode was read.
-#[tactic(auto, unfolding(crate::specs::Instructions::shaped_in))]
-fn integer_of<'a>(
-    op: u8,
-    built: &mut Built,
-    after: u64,
-    bytes: &'a [u8],
-) -> Result<(Token, &'a [u8]), ReadError>
-    requires { length built.old.blocks + after + length bytes.now < 2 ^ 32 }
-    ensures room { IfOk result (λ x. length built.new.blocks + length x.1.now ≤ length built.old.blocks + length bytes.now) }
-    ensures gives { (in_code : Bool) → Gives (λ x. ((x.0, built.new), x.1.now)) result (shaped_in in_code (table.integer_shape op) built.old after bytes.now) }
-{
-    if op < 0x50 {
-        return Ok((Token::Plain(i32_test(op)), bytes));
-    }
-    if op < 0x5B {
-        return Ok((Token::Plain(i64_test(op)), bytes));
-    }
-    if op < 0x71 {
-        return Ok((Token::Plain(i32_arithmetic(op)), bytes));
-    }
-    if op < 0x79 {
-        return Ok((Token::Plain(i32_bitwise(op)), bytes));
-    }
-    if op < 0x83 {
-        return Ok((Token::Plain(i64_arithmetic(op)), bytes));
-    }
-    Ok((Token::Plain(i64_bitwise(op)), bytes))
-}
-
-/// The token whose opcode was read, which is one byte.
-#[tactic(auto, unfolding(crate::specs::Opcodes::shape_of))]
-fn instruction_of<'a>(
+fn token_of_row<'a>(
     alloc: Global,
     in_code: bool,
-    op: u8,
+    row: Row,
     built: &mut Built,
     after: u64,
     bytes: &'a [u8],
 ) -> Result<(Token, &'a [u8]), ReadError>
     requires { length built.old.blocks + after + length bytes.now + 1 < 2 ^ 32 }
     ensures room { IfOk result (λ x. length built.new.blocks + length x.1.now ≤ length built.old.blocks + length bytes.now) }
-    ensures gives { Gives (λ x. ((x.0, built.new), x.1.now)) result (shaped_in in_code (table.shape_of op) built.old after bytes.now) }
+    ensures gives { Gives (λ x. ((x.0, built.new), x.1.now)) result (shaped_in in_code (says.shape row) built.old after bytes.now) }
 {
-    if is_float(op) {
-        return float_of(0, built, after, bytes);
-    }
-    if op < 0x0C {
-        return control_of(op, built, after, bytes);
-    }
-    if op < 0x1A {
-        return branch_of(alloc, op, built, after, bytes);
-    }
-    if op < 0x28 {
-        return variable_of(alloc, op, built, after, bytes);
-    }
-    if op < 0x3F {
-        return memory_of(op, built, after, bytes);
-    }
-    if op < 0x45 {
-        return constant_of(op, built, after, bytes);
-    }
-    if op < 0x8B {
-        return integer_of(op, built, after, bytes);
-    }
-    if op < 0xD0 {
-        return conversion_of(op, built, after, bytes);
-    }
-    reference_of(op, built, after, bytes)
-}
-
-/// The token of a bulk instruction, whose number was read.
-#[tactic(auto, unfolding(crate::specs::Instructions::shaped_in))]
-fn bulk_of<'a>(
-    in_code: bool,
-    number: u32,
-    built: &mut Built,
-    after: u64,
-    bytes: &'a [u8],
-) -> Result<(Token, &'a [u8]), ReadError>
-    requires { length built.old.blocks + after + length bytes.now < 2 ^ 32 }
-    ensures room { IfOk result (λ x. length built.new.blocks + length x.1.now ≤ length built.old.blocks + length bytes.now) }
-    ensures gives { Gives (λ x. ((x.0, built.new), x.1.now)) result (shaped_in in_code (table.bulk_shape number) built.old after bytes.now) }
-{
-    match number {
-        8 => {
-            let (index, rest) = u32_of(bytes)?;
-            let rest = behind_zero(rest)?;
-            note_data(in_code, built);
-            Ok((Token::Plain(Instr::MemoryInit(index)), rest))
-        }
-        9 => {
-            let (index, rest) = u32_of(bytes)?;
-            note_data(in_code, built);
-            Ok((Token::Plain(Instr::DataDrop(index)), rest))
-        }
-        10 => {
-            let rest = behind_zero(bytes)?;
-            let rest = behind_zero(rest)?;
-            Ok((Token::Plain(Instr::MemoryCopy), rest))
-        }
-        11 => {
-            let rest = behind_zero(bytes)?;
-            Ok((Token::Plain(Instr::MemoryFill), rest))
-        }
-        12 => {
-            let (elem, rest) = u32_of(bytes)?;
-            let (table, rest) = u32_of(rest)?;
-            Ok((Token::Plain(Instr::TableInit { elem, table }), rest))
-        }
-        13 => {
-            let (index, rest) = u32_of(bytes)?;
-            Ok((Token::Plain(Instr::ElemDrop(index)), rest))
-        }
-        14 => {
-            let (to, rest) = u32_of(bytes)?;
-            let (from, rest) = u32_of(rest)?;
-            Ok((Token::Plain(Instr::TableCopy { to, from }), rest))
-        }
-        15 => {
-            let (index, rest) = u32_of(bytes)?;
-            Ok((Token::Plain(Instr::TableGrow(index)), rest))
-        }
-        16 => {
-            let (index, rest) = u32_of(bytes)?;
-            Ok((Token::Plain(Instr::TableSize(index)), rest))
-        }
-        17 => {
-            let (index, rest) = u32_of(bytes)?;
-            Ok((Token::Plain(Instr::TableFill(index)), rest))
-        }
-        _ => Err(ReadError::Malformed),
+    match row {
+        Row::Unknown => Err(ReadError::Malformed),
+        Row::Plain(what) => Ok((Token::Plain(plain_instr(what)), bytes)),
+        Row::Index(what) => index_of(what, bytes),
+        Row::Pair(what) => pair_of(what, bytes),
+        Row::Access(what) => access_of(what, bytes),
+        Row::Zero(what) => zero_of(what, bytes),
+        Row::Opening(what) => opening_of(what, built, after, bytes),
+        Row::Else => Ok((Token::Else, bytes)),
+        Row::End => Ok((Token::End, bytes)),
+        Row::BrTable => br_table_of(alloc, built, after, bytes),
+        Row::SelectTyped => select_of(alloc, built, after, bytes),
+        Row::I32Const => i32_const_of(bytes),
+        Row::I64Const => i64_const_of(bytes),
+        Row::RefNull => ref_null_of(bytes),
+        Row::MemoryInit => memory_init_of(in_code, built, bytes),
+        Row::DataDrop => data_drop_of(in_code, built, bytes),
+        Row::MemoryCopy => memory_copy_of(bytes),
+        Row::Float(count) => float_of(count as usize, built, after, bytes),
+        Row::FloatAccess => float_access_of(built, after, bytes),
     }
 }
 
 /// The token whose opcode is FC, which was read, and a number.
 #[tactic(auto, unfolding(crate::specs::Instructions::shaped_in, crate::specs::Opcodes::prefixed_shape))]
 fn prefixed_of<'a>(
+    alloc: Global,
     in_code: bool,
     built: &mut Built,
     after: u64,
@@ -524,7 +376,7 @@ fn prefixed_of<'a>(
         note(built, Leaf { left, what });
         return Ok((Token::Foreign, rest));
     }
-    bulk_of(in_code, number, built, after, rest)
+    token_of_row(alloc, in_code, bulk_row_of(number), built, after, rest)
 }
 
 /// The token of a constant vector, of whose opcode the byte FD was read.
@@ -560,10 +412,10 @@ pub fn token_of<'a>(
         return Err(ReadError::Malformed);
     };
     if *op == 0xFC {
-        return prefixed_of(in_code, built, after, rest);
+        return prefixed_of(alloc, in_code, built, after, rest);
     }
     if *op == 0xFD && !in_code {
         return vector_constant_of(built, after, rest);
     }
-    instruction_of(alloc, in_code, *op, built, after, rest)
+    token_of_row(alloc, in_code, row_of(*op), built, after, rest)
 }
