@@ -67,6 +67,18 @@ def wide_calls(count):
     ])
 
 
+def wide_functions(count):
+    """A module with so many functions with as many results, and a small one that is exported."""
+    small = bytes([0, 0x20, 0, 0x0B])
+    wide = bytes([0, 0x00, 0x0B])
+    return module([
+        section(1, bytes([2, 0x60, 1, 0x7F, 1, 0x7F, 0x60, 0]) + number(count) + bytes([0x7F]) * count),
+        section(3, number(count + 1) + bytes([0]) + bytes([1]) * count),
+        section(7, bytes([1, 1]) + b"f" + bytes([0, 0])),
+        section(10, number(count + 1) + b"".join(number(len(body)) + body for body in [small] + [wide] * count)),
+    ])
+
+
 LOAD = 'let f = new WebAssembly.Instance(new WebAssembly.Module(readbuffer("m"))).exports.f;\nprint(f(1));\n'
 
 
@@ -98,6 +110,10 @@ def calls_of_a_wide_type(count):
     return LOAD, wide_calls(count)
 
 
+def functions_of_a_wide_type(count):
+    return LOAD, wide_functions(count)
+
+
 SHAPES = [
     ("statements that print", prints, 10_000),
     ("declarations", names, 10_000),
@@ -106,6 +122,7 @@ SHAPES = [
     ("a module of many functions", many_functions, 100_000),
     ("a module of one long body", one_long_body, 500_000),
     ("a module of calls of a wide type", calls_of_a_wide_type, 8_000),
+    ("a module of functions of a wide type", functions_of_a_wide_type, 8_000),
 ]
 
 

@@ -34,6 +34,9 @@ head -c 1048576 /dev/zero | tr '\0' ' ' >longest.js
 ends 0 'a 42\n\n' run done.js
 ends 0 '' run longest.js
 ends 0 '6765 55\n' run --module "fib=$here/examples/fib.wasm" "$here/examples/fib.js"
+ends 0 '0 1277644989 1242390873\n' run --module "crc=$here/examples/crc.wasm" "$here/examples/crc.js"
+ends 0 '277626 15267761 8390652\n' run --module "sort=$here/examples/sort.wasm" "$here/examples/sort.js"
+ends 0 '200099 803126 0\n' run --module "words=$here/examples/words.wasm" "$here/examples/words.js"
 ends 1 '1\nuncaught: CompileError\n' run --module m=cut.wasm loads.js
 ends 1 'uncaught: RangeError\n' run --module "fib=$here/examples/fib.wasm" deep.js
 ends 2 'usage: jspirun run [--steps N] [--module NAME=PATH]... SCRIPT\n'

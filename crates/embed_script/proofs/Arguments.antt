@@ -1,5 +1,5 @@
 -- The arguments of a call, one after the other.
-use Rattle.std.proofs.Common.{◌≡◌, ℕ, zero, suc, ◌+◌, ◌-◌, ◌<◌, List, [], ◌∷◌, ◌++◌, Option, Some, None, Result, Ok, Err, IfSome, slice_get, length, drop, refl, sym, ap, ◌∙◌, subst, append_assoc, append-nil, arith}
+use Rattle.std.proofs.Common.{◌≡◌, ℕ, zero, suc, ◌+◌, ◌-◌, ◌<◌, List, [], ◌∷◌, ◌++◌, Option, Some, None, Result, Ok, Err, IfSome, slice_get, length, drop, refl, sym, ap, ◌∙◌, subst, append_assoc, arith}
 use Rattle.embed_base.specs.declared.outside.OutsideKind.{OutsideKind}
 use Rattle.embed_script.specs.declared.value.Value.{Value}
 use Rattle.embed_script.specs.declared.stop.Stop.{Stop}
@@ -60,12 +60,6 @@ end_of_words place answer vs count i front stop within gives h =
         → IfSome o (λ e. at_place place a ≡ Err e) → IfSome o (λ e. answer ≡ Err e)
     ended_by place None answer front a f same h = tt
     ended_by place (Some e) answer front a f same h = same ∙ end_first place front (Some e) a f h
-
--- no parameter is left
-pub all_words : (place : ℕ) (answer : Result (List ℕ) End) (vs : List Value) (count i : ℕ) (front : List ℕ) → i ≡ count → answer ≡ after_words front (at_place place (words_of (count - i) (drop i vs))) → answer ≡ Ok front
-all_words place answer vs count i front at_end gives =
-    let none : count - i ≡ 0 = omega (arith, at_end) in
-    gives ∙ ap (λ n. after_words front (at_place place (words_of n (drop i vs)))) none ∙ ap (λ ws. Ok ws) (append-nil front)
 
 count_one : (r : Result (List ℕ) OutsideKind) (w n : ℕ) (ws : List ℕ) → ((xs : List ℕ) → r ≡ Ok xs → length xs ≡ n) → and_then r (λ xs. Ok (w ∷ xs)) ≡ Ok ws → length ws ≡ suc n
 count_one (Ok xs) w n ws h is = let same : (w ∷ xs) ≡ ws = cc in ap length (sym same) ∙ ap suc (h xs refl)

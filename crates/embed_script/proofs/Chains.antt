@@ -314,8 +314,3 @@ pushed_argument ids n i d task old new at within more =
     ap (λ ts. map tasks.Evaluate (take i ids) ++ ts) turned
     ∙ sym (append_assoc (map tasks.Evaluate (take i ids)) (tasks.Evaluate x ∷ []) (reverse old))
     ∙ ap (λ ts. ts ++ reverse old) (sym (ap (λ xs. map tasks.Evaluate xs) taken ∙ map-append tasks.Evaluate (take i ids) (x ∷ [])))
-
--- the task of a call, on top of the others
-pub call_pushed : (ids : List NodeId) (task : NodeId) (old new : List Task) → new ≡ old ++ tasks.Call task ∷ [] → map tasks.Evaluate ids ++ reverse new ≡ call_tasks ids task ++ reverse old
-call_pushed ids task old new is =
-    ap (λ ts. map tasks.Evaluate ids ++ ts) (ap reverse is ∙ reverse-append old (tasks.Call task ∷ [])) ∙ sym (append_assoc (map tasks.Evaluate ids) (tasks.Call task ∷ []) (reverse old))

@@ -1,7 +1,7 @@
 -- A new instance of a module without imports, and its function with an index.
-use Rattle.std.proofs.Common.{◌≡◌, ℕ, zero, suc, ◌<◌, List, [], ◌∷◌, ◌++◌, Option, Some, None, Bool, true, false, ◌&&◌, cond, Result, Ok, Err, IfSome, length, map, refl, sym, ap, ◌∙◌, subst, arith, slice_get}
+use Rattle.std.proofs.Common.{◌≡◌, ℕ, zero, suc, ◌<◌, List, [], ◌∷◌, ◌++◌, Option, Some, None, Bool, true, false, cond, Result, Ok, Err, IfSome, length, map, refl, sym, ap, ◌∙◌, subst, arith, slice_get}
 use Rattle.std.specs.Prelude.{slice_index_or}
-use Rattle.std.specs.List.{AllZip, filter_map}
+use Rattle.std.specs.List.{filter_map}
 use Rattle.std.proofs.Math.Seq.{get_or-append_seam}
 use Rattle.std.proofs.lemmas.List.{length-append}
 use Rattle.std.proofs.lemmas.Option.{get_or_from_slice_get, same_Some}
@@ -13,12 +13,12 @@ use Rattle.wasm_syntax.specs.declared.trap.Trap.{Trap}
 use Rattle.wasm_syntax.specs.declared.addresses.FuncAddr.{FuncAddr}
 use Rattle.wasm_syntax.specs.declared.addresses.InstAddr.{InstAddr}
 use Rattle.wasm_syntax.specs.declared.addresses.ModuleAddr.{ModuleAddr}
-use Rattle.wasm_valid.specs.Spaces.{then_, funcs_of, func_import, table_import, mem_import, global_import}
+use Rattle.wasm_valid.specs.Spaces.{then_, funcs_of, func_import}
 use Rattle.wasm_store.specs.declared.instances.Instance.{Instance}
 use Rattle.wasm_store.specs.Store.{Store, no_module, blank, with_module, module_at, instance_at, function_at, type_of}
-use Rattle.wasm_store.specs.Whole.{HasFunction, HasTable, HasMemory, HasGlobal, HasLists, IsLater, own_type}
+use Rattle.wasm_store.specs.Whole.{HasLists, IsLater, own_type}
 use Rattle.wasm_store.specs.Laws.{ModulesStay, FunctionOfIndex}
-use Rattle.wasm_store.specs.Allocated.{func_addr, instance_of as lists_of, AreImports}
+use Rattle.wasm_store.specs.Allocated.{func_addr, instance_of as lists_of}
 use Rattle.wasm_instance.specs.declared.modules.Instantiated.{Instantiated}
 use Rattle.wasm_instance.specs.declared.modules.Instantiated.TheVariants as ends
 use Rattle.wasm_instance.specs.Instantiation.{goes, traps, instantiated, is_within_limits, start_of, Instantiates}
@@ -34,28 +34,8 @@ empty : {A : Type 0} → (xs : List A) → is_empty xs ≡ true → xs ≡ []
 empty [] e = refl
 empty (x ∷ xs) e = absurd (let h : false ≡ true = e in cc)
 
-first_of : (a b : Bool) → (a && b) ≡ true → a ≡ true
-first_of true b e = refl
-first_of false b e = cc
-
-second_of : (a b : Bool) → (a && b) ≡ true → b ≡ true
-second_of true b e = e
-second_of false b e = cc
-
--- what a self-contained module lacks
-pub record Lacks (m : Module) : Type 0 where
-  pub imports : m.imports ≡ []
-  pub mems : m.mems ≡ []
-  pub datas : m.datas ≡ []
-
-pub lacks : (m : Module) → is_self_contained m ≡ true → Lacks m
-lacks m e =
-    let both = first_of (is_empty m.imports && is_empty m.mems) (is_empty m.datas) e in
-    record {
-      imports = empty m.imports (first_of (is_empty m.imports) (is_empty m.mems) both);
-      mems = empty m.mems (second_of (is_empty m.imports) (is_empty m.mems) both);
-      datas = empty m.datas (second_of (is_empty m.imports && is_empty m.mems) (is_empty m.datas) e);
-    }
+pub no_import : (m : Module) → is_self_contained m ≡ true → m.imports ≡ []
+no_import m e = empty m.imports e
 
 -- the module that was moved in
 pub module_new : (m : Module) (s : Store) (a : ModuleAddr) → a.0 ≡ length s.modules → module_at (with_module m s) a ≡ m
@@ -63,16 +43,6 @@ module_new m s a e = ap (λ k. slice_index_or (s.modules ++ m ∷ []) k no_modul
 
 pub live_new : (m : Module) (s : Store) (a : ModuleAddr) → a.0 ≡ length s.modules → a.0 < length (with_module m s).modules
 live_new m s a e = omega (arith, e, length-append s.modules (m ∷ []))
-
--- no import is asked
-pub no_imports : (s : Store) (m : Module) (a : ModuleAddr) → m.imports ≡ [] → AreImports s m (blank a)
-no_imports s m a e =
-    record {
-      funcs = subst (λ (is : List Import). AllZip (HasFunction s m) [] (filter_map (λ (i : Import). func_import i.desc) is)) (sym e) tt;
-      tables = subst (λ (is : List Import). AllZip (HasTable s) [] (filter_map (λ (i : Import). table_import i.desc) is)) (sym e) tt;
-      mems = subst (λ (is : List Import). AllZip (HasMemory s) [] (filter_map (λ (i : Import). mem_import i.desc) is)) (sym e) tt;
-      globals = subst (λ (is : List Import). AllZip (HasGlobal s) [] (filter_map (λ (i : Import). global_import i.desc) is)) (sym e) tt;
-    }
 
 -- The function.
 
@@ -165,11 +135,6 @@ made_stopped m s a t imports k u start end h e g b d =
 pub made_trapped : (m : Module) (s : State) (a : ModuleAddr) (t : Store) (imports : Instance) (k : ℕ) (u : Store) (cause : Trap) → IsMade m s a t imports → is_within_limits t (module_at t a) ≡ true
     → instantiated a imports t ≡ traps cause u → instance_with m k s ≡ Err runtime_error
 made_trapped m s a t imports k u cause h e g = within m s a t imports k h e ∙ ap (with_segments m (lists_of a imports t) k s.left) g
-
-pub made_past : (m : Module) (s : State) (a : ModuleAddr) (t : Store) (imports : Instance) (k : ℕ) → IsMade m s a t imports → is_within_limits t (module_at t a) ≡ false → instance_with m k s ≡ Err range_error
-made_past m s a t imports k h e =
-    let n = next_module s.store in
-    choose_past (is_within_limits (with_module m s.store) m) (with_segments m (lists_of n (blank n) (with_module m s.store)) k s.left (instantiated n (blank n) (with_module m s.store))) (ap (λ (u : Store). is_within_limits u m) (sym h.store) ∙ ap (is_within_limits t) (sym h.module) ∙ e)
 
 pub made : (m : Module) (s : State) (a : ModuleAddr) (t : Store) (imports : Instance) → a.0 ≡ length s.store.modules → t ≡ with_module m s.store → imports ≡ blank a → IsMade m s a t imports
 made m s a t imports e g h =

@@ -20,7 +20,7 @@ use Rattle.embed_script.specs.Ends.{End, done}
 use Rattle.embed_script.specs.Functions.{Modules}
 use Rattle.embed_script.specs.Evaluation.{Bindings}
 use Rattle.embed_script.specs.Outcome.{Statement, declares, binds, prints, statements_of, Progress, going, ended, after, performed, run_of, outcome_of, outcome_of_progress}
-use Rattle.embed_script.specs.Stops.{end_of, Ends}
+use Rattle.embed_script.specs.Stops.{end_of}
 use Rattle.embed_script.specs.Tasks.{IsBoundAs, binding_of}
 use Rattle.embed_script.specs.Runs.{StatementShows, StatementsShow, FormShows, HasPrinted, Stands, EndedBy, Performs}
 use Rattle.embed_script.proofs.Values.{arguments_show}
@@ -56,11 +56,6 @@ ended_after : {A : Type 0} → (o : Option End) (lines : List (List ℕ)) (answe
     → IfSome o (λ e. EndedBy (after lines answer goes_on) e run)
 ended_after None lines answer goes_on run h printed = tt
 ended_after (Some e) lines answer goes_on run h printed = record { lines = lines; ends = ap (λ r. after lines r goes_on) h; printed = printed }
-
--- what ends an answer ends the run
-pub ends_run : {A : Type 0} → (B : Type 0) → (stop : Stop) (lines : List (List ℕ)) (answer : Result A End) (goes_on : A → Progress) (run : Run) → Ends stop answer → HasPrinted lines run
-    → Performs {A = B} (Err stop) (after lines answer goes_on) run
-ends_run B stop lines answer goes_on run h printed = ended_after (end_of stop) lines answer goes_on run h printed
 
 -- the run goes on after an answer
 pub goes_after : {A B : Type 0} → (r : Result B Stop) (lines : List (List ℕ)) (answer : Result A End) (x : A) (goes_on : A → Progress) (run : Run) → answer ≡ Ok x → Performs r (goes_on x) run → Performs r (after lines answer goes_on) run

@@ -16,14 +16,13 @@ use Rattle.wasm_syntax.specs.declared.module.Module.{Module}
 use Rattle.wasm_store.specs.declared.instances.FuncInst.{FuncInst}
 use Rattle.wasm_store.specs.declared.instances.FuncInst.TheVariants as kind
 use Rattle.wasm_store.specs.Store.{Store, type_of, function_at, no_function, with_module, empty_store, blank}
-use Rattle.wasm_store.specs.Whole.{HasType, HasCode, IsBlank, IsLater}
+use Rattle.wasm_store.specs.Whole.{HasType, HasCode, IsBlank, IsLater, AllHaveCode, HasSameCode}
 use Rattle.wasm_store.specs.Laws.{FunctionsStay}
 use Rattle.wasm_machine.specs.Entering.{CanEnter}
 use Rattle.wasm_instance.specs.Laws.{IsStart}
 use Rattle.wasm_store.specs.declared.instances.Instance.{Instance}
 use Rattle.std.specs.Prelude.{slice_index_or}
 use Rattle.std.specs.Map.{lookup}
-use Rattle.wasm_calls.specs.Answers.{AllHaveCode, HasSameCode}
 use Rattle.embed_script.specs.declared.value.Bound.{Bound}
 use Rattle.embed_script.specs.Functions.{is_i32, are_i32, is_one_i32, is_word_type, parameters_of}
 use Rattle.embed_script.specs.Evaluation.{Binding, value, function}

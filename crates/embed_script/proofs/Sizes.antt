@@ -8,7 +8,6 @@ use Rattle.small_parser.specs.declared.script.Form.{Form}
 use Rattle.small_parser.specs.declared.script.Form.TheVariants as forms
 use Rattle.small_parser.specs.declared.script.Node.{Node}
 use Rattle.small_parser.specs.Shows.{AreBelow}
-use Rattle.embed_script.specs.declared.evaluate.Task.{Task}
 use Rattle.embed_script.specs.declared.evaluate.Task.TheVariants as tasks
 use Rattle.embed_script.specs.Tasks.{size_of, form_size, node_size, tasks_size, task_size, chain_tasks, following_tasks, call_tasks, AllBefore}
 
@@ -110,9 +109,3 @@ pub size_least : (nodes : List Node) (depth id : ℕ) → 1 ≤ size_of nodes de
 unfolding size_of
 size_least nodes zero id = omega arith
 size_least nodes (suc depth) id = node_least (size_of nodes depth) (slice_get nodes id)
-
--- each task takes something
-pub task_least : (nodes : List Node) (x : Task) → 1 ≤ task_size nodes x
-task_least nodes (tasks.Evaluate id) = size_least nodes (suc id.0) id.0
-task_least nodes (tasks.Operate o k) = omega arith
-task_least nodes (tasks.Call id) = omega arith

@@ -10,7 +10,7 @@ use Rattle.small_parser.specs.declared.script.Form.{Form}
 use Rattle.small_parser.specs.declared.script.Form.TheVariants as forms
 use Rattle.small_parser.specs.declared.script.Node.{Node}
 use Rattle.small_parser.specs.Grammar.{Sum, product, added, Product, factor, times, Factor, number, text, name, parens, call}
-use Rattle.small_parser.specs.Shows.{SumShows, ProductShows, FactorShows, IsCall}
+use Rattle.small_parser.specs.Shows.{SumShows, ProductShows, FactorShows}
 use Rattle.embed_script.specs.declared.state.State.{State}
 use Rattle.embed_script.specs.declared.value.Value.{Value}
 use Rattle.embed_script.specs.declared.evaluate.Task.{Task}
@@ -19,7 +19,7 @@ use Rattle.embed_script.specs.declared.stop.Stop.{Stop}
 use Rattle.embed_script.specs.Ends.{End, and_then, keeping}
 use Rattle.embed_script.specs.Stops.{end_of, Ends}
 use Rattle.embed_script.specs.Evaluation.{Bindings, Answer, sum_value, called}
-use Rattle.embed_script.specs.Tasks.{Todo, evaluates, calls, perform, Fits, TodosShow, TodoShows, chain_tasks, tasks_size, task_size, size_of, Continues, Steps, last_value, call_tasks}
+use Rattle.embed_script.specs.Tasks.{Todo, evaluates, calls, perform, Fits, TodosShow, chain_tasks, tasks_size, task_size, size_of, Continues, Steps, last_value, call_tasks}
 use Rattle.embed_script.proofs.Sizes.{chain_smaller, call_smaller, size_least}
 use Rattle.embed_script.proofs.Chains.{Unrolls, ReadsChain, ReadsCall, Reads, reads_sum, show_append}
 
@@ -45,10 +45,6 @@ value_step nodes b answer ts v xs old new left is shown fits more =
       fits = subst (Fits ts) (sym long) fits;
       gives = ap (λ r. and_then (keeping left r) (λ w. perform b ts (w.0 ∷ reverse old) w.1)) is;
     })
-
--- an end ends the evaluation
-pub ended_step : (stop : Stop) (answer : Result Value End) (left : State) (f : Value × State → Answer) → Ends stop answer → Ends stop (and_then (keeping left answer) f)
-ended_step stop answer left f h = ends_first stop (keeping left answer) f (ends_first stop answer (λ x. Ok (x, left)) h)
 
 -- tasks take the place of an expression's
 pub unrolled_step : (nodes : List Node) (b : Bindings) (e : Sum) (ts : List Todo) (xs : List Task) (old new : List Task) (vs : List Value) (n : ℕ) (left : State)
@@ -207,17 +203,6 @@ call_ends b w k n at left ts old stop within is h =
     let off = off_end old n at within is in
     let P : List Value → Type 0 = λ vs. Ends stop (called k (b w) vs left) in
     ends_first stop (called k (b w) (reverse (take n (reverse old))) left) (λ u. perform b ts (u.0 ∷ drop n (reverse old)) u.1) (subst P (sym off.0) h)
-
--- what a call's node tells
-pub at_call : (nodes : List Node) (w : List ℕ) (k count : ℕ) (id : NodeId) (node : Node) → slice_get nodes id.0 ≡ Some node → TodoShows nodes (calls w k count) (tasks.Call id) → (node.place ≡ k) × IsCall w (λ ids. length ids ≡ count) node.form
-at_call nodes w k count id node at h = subst (λ o. IsSomeAnd o (λ n. (n.place ≡ k) × IsCall w (λ ids. length ids ≡ count) n.form)) at h
-
-pub call_in_range : (nodes : List Node) (w : List ℕ) (k count : ℕ) (id : NodeId) → TodoShows nodes (calls w k count) (tasks.Call id) → id.0 < length nodes
-call_in_range nodes w k count id h = node_in_range nodes id.0 _ h
-
--- after a task that gives an answer
-pub given_first : {A B : Type 0} → (a : Result A End) (x : A) (f : A → Result B End) → a ≡ Ok x → and_then a f ≡ f x
-given_first a x f is = ap (λ r. and_then r f) is
 
 -- a step towards an answer is one towards an answer that is the same
 pub steps_of : {A : Type 0} → (r : Result A Stop) (nodes : List Node) (b : Bindings) (x y : Answer) (f : Value × State → Answer) (todo : Vec Task Global) (done : Vec Value Global) (left : State)

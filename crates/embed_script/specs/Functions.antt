@@ -75,9 +75,9 @@ abbrev pub is_empty : {A : Type 0} → List A → Bool
 is_empty [] = true
 is_empty (x ∷ xs) = false
 
--- a module without imports, memories and data segments
+-- a module without imports
 abbrev pub is_self_contained : Module → Bool
-is_self_contained m = is_empty m.imports && is_empty m.mems && is_empty m.datas
+is_self_contained m = is_empty m.imports
 
 abbrev pub is_i32 : ValType → Bool
 is_i32 v.I32 = true

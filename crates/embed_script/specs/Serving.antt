@@ -4,7 +4,7 @@ use Rattle.std.specs.Option.{option_map}
 use Rattle.std.specs.HashMap.{get_by_text}
 use Rattle.wasm_syntax.specs.declared.addresses.FuncAddr.{FuncAddr}
 use Rattle.wasm_store.specs.Store.{Store, type_of, function_at}
-use Rattle.wasm_calls.specs.Answers.{AllHaveCode}
+use Rattle.wasm_store.specs.Whole.{AllHaveCode}
 use Rattle.embed_script.specs.Functions.{is_word_type}
 use Rattle.embed_script.specs.Evaluation.{Binding, value, function}
 use Rattle.embed_script.specs.Tasks.{Names, binding_of}

@@ -1,8 +1,7 @@
 ghost use Rattle.std.specs.Prelude.{◌≡◌, IfOk, map};
 ghost use Rattle.wasm_syntax.specs.declared.value.Value.TheVariants as wasm;
-ghost use Rattle.wasm_store.specs.Whole.{IsLater};
+ghost use Rattle.wasm_store.specs.Whole.{IsLater, AllHaveCode, HasSameCode};
 ghost use Rattle.wasm_machine.specs.Entering.{CanEnter};
-ghost use Rattle.wasm_calls.specs.Answers.{AllHaveCode, HasSameCode};
 ghost use Rattle.embed_script.specs.Functions.{run, result_value, call_of};
 ghost use Rattle.embed_script.specs.Serving.{IsCallable};
 ghost use Rattle.embed_script.specs.Stops.{MeetsIn, MeetsInAs};

@@ -1,10 +1,9 @@
 ghost use Rattle.std.specs.Prelude.{◌≡◌, ℕ, List, Some, None, Ok, Err, IfOk, IfSome, IsSomeAnd, MatchOption, true, length, slice_index_or, ◌≤◌, ◌<◌, ◌^◌};
 ghost use Rattle.wasm_grammar.specs.Decoding.{Decoded, Decodes};
 ghost use Rattle.wasm_store.specs.Store.{instance_at};
-ghost use Rattle.wasm_store.specs.Whole.{IsLater, own_type};
+ghost use Rattle.wasm_store.specs.Whole.{IsLater, own_type, AllHaveCode, HasSameCode};
 ghost use Rattle.wasm_store.specs.Allocated.{func_addr};
 ghost use Rattle.wasm_instance.specs.Laws.{IsStart};
-ghost use Rattle.wasm_calls.specs.Answers.{AllHaveCode, HasSameCode};
 ghost use Rattle.embed_script.specs.Functions.{Modules, decoded_of, typed, module_of, compiled_of, exported_index, is_self_contained, is_i32, are_i32, is_one_i32, is_word_type, has_word_type, exported, started, instance_with, instance_of, kind_of};
 ghost use Rattle.embed_script.specs.ModuleFiles.{AreDecodings};
 ghost use Rattle.embed_script.specs.Serving.{IsCallable};
@@ -103,11 +102,11 @@ fn exported_index(exports: &[Export], name: &str) -> Option<u32>
     None
 }
 
-/// Whether a module has no imports, memories and data segments.
+/// Whether a module has no imports.
 fn is_self_contained(module: &Module) -> bool
     ensures { result ≡ is_self_contained «module».now }
 {
-    module.imports.is_empty() && module.mems.is_empty() && module.datas.is_empty()
+    module.imports.is_empty()
 }
 
 fn is_i32(ty: ValType) -> bool

@@ -5,7 +5,7 @@ ghost use Rattle.std.specs.Prelude.{◌≡◌};
 use crate::modules::{
     CONTROL, GLOBALS, LARGE, LOCALS, NUMBERS_32, NUMBERS_64, SEGMENT_AT_END, SEGMENT_PAST_END,
     SEVEN_IN_A_TABLE, START, START_AFTER_SEGMENTS, START_LOOPS, START_RECURS, START_TRAPS, TABLES,
-    TOO_LARGE, TRAPS, WITH_A_MEMORY, WITH_AN_IMPORT,
+    TOO_LARGE, TRAPS, WITH_AN_IMPORT,
 };
 use embed_base::{SureFiles, SureSink};
 use embed_cmd::run_main;
@@ -14,7 +14,7 @@ use std::str;
 use std::test::Fail;
 
 /// The export that is bound to its own name, what the script does then, and the status with what is written.
-type Case = (&'static str, &'static str, &'static str);
+pub(crate) type Case = (&'static str, &'static str, &'static str);
 
 /// The words of a command line over the module `m`.
 fn words(alloc: Global, steps: &str) -> Result<Vec<String>, Fail> {
@@ -36,7 +36,7 @@ fn files(alloc: Global, bytes: &[u8], script: &str) -> Result<SureFiles, Fail> {
 }
 
 /// Whether a script over a module with a word for its budget ends and writes so.
-fn writes(alloc: Global, steps: &str, bytes: &[u8], case: &Case) -> Result<bool, Fail> {
+pub(crate) fn writes(alloc: Global, steps: &str, bytes: &[u8], case: &Case) -> Result<bool, Fail> {
     let name = case.0;
     let last = case.1;
     let script = format!(in alloc;
@@ -52,7 +52,7 @@ fn writes(alloc: Global, steps: &str, bytes: &[u8], case: &Case) -> Result<bool,
 }
 
 /// How many cases, from the first on, end and write as they say.
-fn right(alloc: Global, bytes: &[u8], cases: &[Case]) -> Result<usize, Fail> {
+pub(crate) fn right(alloc: Global, bytes: &[u8], cases: &[Case]) -> Result<usize, Fail> {
     let mut count = 0_usize;
     for case in cases {
         if !writes(alloc, "--steps=1000000000", bytes, case)? {
@@ -530,7 +530,7 @@ static EXPORTS: [Case; 4] = [
     ("h", "print(1);", "Outside|outside: not-yet at 0\n"),
 ];
 
-/// A module that isn't instantiated yet: its start function doesn't run.
+/// A module with an import isn't instantiated yet.
 static NOT_YET: [Case; 1] = [("f", "print(1);", "Outside|outside: not-yet at 0\n")];
 
 /// The fourth charge comes before that.
@@ -546,10 +546,6 @@ fn what_a_script_may_call_of_a_module(rt: HostRuntime) -> Result<(), Fail> {
         4
     );
     assert_eq!(rt;
-        right(alloc, WITH_A_MEMORY.as_slice(), NOT_YET.as_slice())?,
-        1
-    );
-    assert_eq!(rt;
         right(alloc, WITH_AN_IMPORT.as_slice(), NOT_YET.as_slice())?,
         1
     );
@@ -559,7 +555,7 @@ fn what_a_script_may_call_of_a_module(rt: HostRuntime) -> Result<(), Fail> {
 #[test]
 fn the_fourth_charge_comes_before_not_yet(rt: HostRuntime) -> Result<(), Fail> {
     let alloc = rt.alloc();
-    let bytes = WITH_A_MEMORY.as_slice();
+    let bytes = WITH_AN_IMPORT.as_slice();
     assert!(rt; writes(alloc, "--steps=3", bytes, &THREE_UNITS)?, "3 units");
     assert!(rt; writes(alloc, "--steps=4", bytes, &FOUR_UNITS)?, "4 units");
     Ok(())

@@ -9,7 +9,7 @@ use crate::calls::value;
 use sqlite_items::Items;
 use std::alloc::Global;
 use std::test::Fail;
-use wasm_store::{FuncInst, Instance, Store};
+use wasm_store::{FuncInst, Instance, SharedType, Store};
 use wasm_syntax::{
     FuncType, GlobalType, InstAddr, Limit, Module, ModuleAddr, TableAddr, TableType, ValType, Value,
 };
@@ -113,16 +113,27 @@ fn globals(store: &mut Store, alloc: Global) -> Result<bool, Fail> {
     )
 }
 
-/// A function is found again with its type.
+/// Functions that share a type are found again with it.
 fn functions(store: &mut Store, alloc: Global) -> Result<bool, Fail> {
     let ty = FuncType {
         params: Items::from_slice(alloc, &[ValType::I32])?,
         results: Items::new(alloc),
     };
+    let ty = SharedType::new(alloc, ty)?;
+    let again = ty.clone()?;
     let a = store.alloc_func(alloc, FuncInst::Host { ty, callee: 7 })?;
+    let b = store.alloc_func(
+        alloc,
+        FuncInst::Suspending {
+            ty: again,
+            callee: 8,
+        },
+    )?;
     Ok(
         store.func(a).ty().params.len() == 1
-            && matches!(store.func(a), FuncInst::Host { callee: 7, .. }),
+            && store.func(b).ty().params.len() == 1
+            && matches!(store.func(a), FuncInst::Host { callee: 7, .. })
+            && matches!(store.func(b), FuncInst::Suspending { callee: 8, .. }),
     )
 }
 

@@ -8,7 +8,7 @@ use Rattle.wasm_syntax.specs.declared.types.ValType.{ValType}
 use Rattle.wasm_syntax.specs.declared.value.Value.{Value}
 use Rattle.wasm_syntax.specs.declared.addresses.FuncAddr.{FuncAddr}
 use Rattle.wasm_store.specs.Store.{Store, type_of, function_at}
-use Rattle.wasm_store.specs.Whole.{HasType}
+use Rattle.wasm_store.specs.Whole.{HasType, AllHaveCode}
 use Rattle.wasm_machine.specs.Terms.{Term, invoke, throw, with_form}
 use Rattle.wasm_machine.specs.Reduction.{calls, frame_for}
 use Rattle.wasm_machine.specs.View.{View, module_for, term_round, term_of}
@@ -18,7 +18,6 @@ use Rattle.std.specs.declared.alloc.Global.{Global}
 use Rattle.std.specs.declared.vec.Vec.{Vec}
 use Rattle.wasm_machine.specs.declared.frame.Effect.TheVariants.{Call, Returned}
 use Rattle.wasm_calls.specs.declared.activations.Activations.{Activations}
-use Rattle.wasm_calls.specs.Answers.{AllHaveCode}
 use Rattle.wasm_calls.specs.Activations.{frames_round, Reaches, AreWaiting, IsPending, Works}
 use Rattle.wasm_calls.proofs.Repeating.{leads, leads_to, reaches}
 use Rattle.wasm_calls.proofs.Frames.{charge_all, frames_all, form_all, call_at_work, free_next, unwind_throw}
@@ -106,11 +105,6 @@ next_frame s R a values v outer' e h =
     let w : AreWaiting s R (v ∷ reverse outer') h.own = subst (λ vs. AreWaiting s R vs h.own) d h.round.waiting in
     let n : length (v ∷ reverse outer') < most_frames = subst (λ (vs : List View). length vs < most_frames) d h.round.few in
     record { own = w.0; types = h.own; waits = w.1; typed = h.leaves; waiting = w.2; few = omega (arith, n); code = h.round.code }
-
-pub last_frame : (s : Store) (R : List ValType) (a : Activations) (values : Vec Value Global) → a.outer.items ≡ [] → IsPending s R (Returned values) a → AllZip (HasType s) values.items R
-last_frame s R a values e h =
-    let w : h.own ≡ R = subst (λ (xs : List View). AreWaiting s R (reverse xs) h.own) e h.round.waiting in
-    subst (λ ts. AllZip (HasType s) values.items ts) w h.leaves
 
 pub give_lasts : (s : Store) (R : List ValType) (values : List Value) (v w : View) (outer' : Vec View Global) (left : ℕ) → IsNext s R values v (reverse outer'.items)
     → ((own types : List ValType) → Waits s own types v → AllZip (HasType s) values types → Fits s own w) → Works s R (record { top = w; outer = outer'; left = left })

@@ -27,7 +27,7 @@ use Rattle.wasm_machine.specs.Terms.{FrameState, Kind, Term}
 use Rattle.wasm_machine.specs.Performing.{Performed, performs, traps, lacks, perform, perform_drop, perform_select, perform_is_null, take_value, take_i32, take_number, find, check, result, read_entry, grow_by, grow_memory_by, is_null}
 use Rattle.wasm_machine.specs.Reduction.{Act, goes, branches, returns, cannot, module_of, topmost, of_performed, opened, begun, nested, branch_if, branch_table, invoked, call, call_index, same_func_type, call_entry, call_through, act_by, act}
 use Rattle.wasm_calls.specs.Calls.{weight}
-use Rattle.wasm_calls.specs.Answers.{HasSameCode}
+use Rattle.wasm_store.specs.Whole.{HasSameCode}
 
 pub same : (s : Store) → HasSameCode s s
 same s = record { modules = refl; instances = refl; functions = refl }

@@ -102,8 +102,5 @@ leads_on c d e a b = record { same = a.same ∙ b.same; less = omega (arith, a.l
 pub reaches : (c d : Configuration) → Leads c d → Reaches c d
 reaches c d a = record { same = a.same; no_more = omega (arith, a.less) }
 
-pub reaches_on : (c d e : Configuration) → Leads c d → Reaches d e → Reaches c e
-reaches_on c d e a b = reaches c e (leads_on c d e a b)
-
 pub leads_to : (c d e : Configuration) → Leads c d → Leads d e → Leads c e
 leads_to c d e a b = leads_on c d e a (reaches d e b)

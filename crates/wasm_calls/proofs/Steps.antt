@@ -11,7 +11,7 @@ use Rattle.wasm_store.specs.declared.instances.FuncInst.{FuncInst}
 use Rattle.wasm_store.specs.declared.instances.FuncInst.TheVariants as f
 use Rattle.wasm_store.specs.declared.instances.Instance.{Instance}
 use Rattle.wasm_store.specs.Store.{Store, blank}
-use Rattle.wasm_store.specs.Whole.{IsBlank, IsLater}
+use Rattle.wasm_store.specs.Whole.{IsBlank, IsLater, AllHaveCode, HasSameCode}
 use Rattle.wasm_machine.specs.Terms.{FrameState, Term, here, invoke, trap, throw, inside}
 use Rattle.wasm_machine.specs.Charges.{charge_of}
 use Rattle.wasm_machine.specs.Reduction.{asks, rewrites, gives, reduce}
@@ -23,7 +23,6 @@ use Rattle.wasm_machine.specs.declared.frame.Effect.{Effect}
 use Rattle.wasm_machine.specs.declared.frame.Effect.TheVariants.{Went, Call, Returned, Trapped, Grew}
 use Rattle.wasm_calls.specs.declared.activations.Activations.{Activations}
 use Rattle.wasm_calls.specs.Calls.{Configuration, running, ended, trapped, past_budget, after, outermost}
-use Rattle.wasm_calls.specs.Answers.{AllHaveCode, HasSameCode}
 use Rattle.wasm_calls.specs.Activations.{frames_round, outer_of, configuration_of, calling, given, pending, Leads, AreWaiting, IsRound, Works, IsPending}
 use Rattle.wasm_calls.proofs.Keeping.{same}
 use Rattle.wasm_calls.proofs.Weights.{IsFine, fine}
@@ -55,7 +54,7 @@ same_code s t Went r w h = code_of_rewriting s outermost t r outermost (term_of 
 same_code s t (Call func args) r w h = subst (HasSameCode s) (sym h.0) (same s)
 same_code s t (Returned values) r w h = subst (HasSameCode s) (sym h.0) (same s)
 same_code s t (Trapped cause) r w h = subst (HasSameCode s) (sym h.0) (same s)
-same_code s t (Grew memory) r w h = absurd h
+same_code s t (Grew memory) r w h = code_of_rewriting s outermost t r outermost (term_of r w) (h outermost)
 
 pub codes : (s t u : Store) → HasSameCode s t → HasSameCode t u → HasSameCode s u
 codes s t u a b = record { modules = b.modules ∙ a.modules; instances = b.instances ∙ a.instances; functions = b.functions ∙ a.functions }
@@ -125,7 +124,7 @@ step_leads s a (Returned values) r w c e le h =
 step_leads s a (Trapped cause) r w c e le h =
     subst (λ (x : Store). Leads (configuration_of s a) (ended x (trapped cause) (a.left - c))) (sym h.0)
     (step_traps s (outer_of a) (term_of s a.top) a.left c (λ vs is. refl) (sym e) le cause (h.1 (state_round s (outer_of a))))
-step_leads s a (Grew memory) r w c e le h = absurd h
+step_leads s a (Grew memory) r w c e le h = step_went s (outer_of a) (term_of s a.top) a.left c (λ vs is. refl) (sym e) le r w h
 
 pub step_leaves : WaitingStays → (s : Store) (a : Activations) (e : Effect) (r : Store) (w : View) (left : ℕ) → IsLater s r → Makes s (term_of s a.top) e r w → ((R : List ValType) → Fits s R a.top → LeavesFit R e r w)
     → (R : List ValType) → Works s R a → IsPending r R e (stepped a w left)

@@ -11,7 +11,7 @@ use Rattle.wasm_machine.specs.Terms.{FrameState, Kind, label, frame, Level, Term
 use Rattle.wasm_machine.specs.Charges.{charge_by, charge_in, charge_of}
 use Rattle.wasm_machine.specs.Reduction.{Act, goes, branches, returns, cannot, act, Does, asks, rewrites, gives, breaks, leaves, calls, traps, throws, stuck, under, renewed, gives_some, breaks_from, leaves_from, ends_from, acted, ended, next_in, in_level, reduce, topmost}
 use Rattle.wasm_calls.specs.Calls.{weight}
-use Rattle.wasm_calls.specs.Answers.{HasSameCode}
+use Rattle.wasm_store.specs.Whole.{HasSameCode}
 use Rattle.wasm_calls.proofs.Keeping.{same, IsGentle, gentle}
 
 pub record IsLighter (s r : Store) (t u : Term) : Type 0 where

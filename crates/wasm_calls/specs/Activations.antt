@@ -13,7 +13,8 @@ use Rattle.wasm_machine.specs.declared.frame.Effect.TheVariants.{Went, Call, Ret
 use Rattle.wasm_calls.specs.declared.ending.Ending.{Ending}
 use Rattle.wasm_calls.specs.declared.activations.Activations.{Activations}
 use Rattle.wasm_calls.specs.Calls.{Configuration, running, ended, returned, trapped, most_frames, most_rewritings, end_of}
-use Rattle.wasm_calls.specs.Answers.{outcome_of, EndsTyped, AllHaveCode}
+use Rattle.wasm_calls.specs.Answers.{outcome_of, EndsTyped}
+use Rattle.wasm_store.specs.Whole.{AllHaveCode}
 
 -- frames round a term, the innermost first
 abbrev pub frames_round : Store → List View → Term → Term

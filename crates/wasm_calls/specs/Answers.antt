@@ -1,10 +1,9 @@
 -- Words of the contract of a call: its end, and what it leaves of the store.
-use Rattle.std.specs.Prelude.{◌≡◌, List}
-use Rattle.std.specs.List.{All, AllZip}
+use Rattle.std.specs.Prelude.{List}
+use Rattle.std.specs.List.{AllZip}
 use Rattle.wasm_syntax.specs.declared.types.ValType.{ValType}
 use Rattle.wasm_store.specs.Store.{Store}
 use Rattle.wasm_store.specs.Whole.{HasType}
-use Rattle.wasm_machine.specs.Entering.{HasCode}
 use Rattle.wasm_calls.specs.declared.ending.Ending.{Ending}
 use Rattle.wasm_calls.specs.declared.ending.Ending.TheVariants.{Returned, Trapped, Exhausted, PastBudget}
 use Rattle.wasm_calls.specs.Calls.{Outcome, returned, trapped, thrown, past_budget, stack_exhausted}
@@ -19,13 +18,3 @@ outcome_of (PastBudget needs) = past_budget needs
 abbrev pub EndsTyped : Store → List ValType → Ending → Type 0
 EndsTyped s types (Returned values) = AllZip (HasType s) values.items types
 EndsTyped s types _ = Unit {0}
-
--- each function is one of a module whose instance has its lists
-abbrev pub AllHaveCode : Store → Type 0
-AllHaveCode s = All (HasCode s) s.functions
-
--- no module, instance or function more, and each as it was
-pub record HasSameCode (s r : Store) : Type 0 where
-  pub modules : r.modules ≡ s.modules
-  pub instances : r.instances ≡ s.instances
-  pub functions : r.functions ≡ s.functions

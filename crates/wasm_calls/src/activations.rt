@@ -3,12 +3,12 @@
 ghost use Rattle.std.specs.Prelude.{◌≡◌, ◌≤◌, List, IfOk, reverse};
 ghost use Rattle.wasm_syntax.specs.declared.types.ValType.{ValType};
 ghost use Rattle.wasm_store.specs.Store.{type_of, function_at};
-ghost use Rattle.wasm_store.specs.Whole.{IsLater};
+ghost use Rattle.wasm_store.specs.Whole.{IsLater, AllHaveCode, HasSameCode};
 ghost use Rattle.wasm_machine.specs.View.{term_of};
 ghost use Rattle.wasm_machine.specs.Charges.{charge_of};
 ghost use Rattle.wasm_machine.specs.Entering.{CanEnter};
 ghost use Rattle.wasm_calls.specs.Calls.{call_of, ended, end_of};
-ghost use Rattle.wasm_calls.specs.Answers.{outcome_of, EndsTyped, AllHaveCode, HasSameCode};
+ghost use Rattle.wasm_calls.specs.Answers.{outcome_of, EndsTyped};
 ghost use Rattle.wasm_calls.specs.Activations.{Reaches, Leads, place_of, configuration_of, calling, given, outer_of, pending, Works, IsPending, Lasts};
 
 use crate::ending::{Ending, Invoked};

@@ -1,15 +1,12 @@
 -- One thing more of a kind, and all that there are.
-use Rattle.std.proofs.Common.{◌≡◌, ℕ, ◌+◌, ◌<◌, ◌≤◌, List, [], ◌∷◌, ◌++◌, length, take, refl, sym, ap, ◌∙◌, subst, append_assoc, append-nil, arith, length-append}
+use Rattle.std.proofs.Common.{◌≡◌, ℕ, ◌+◌, ◌<◌, ◌≤◌, List, [], ◌∷◌, ◌++◌, length, take, refl, sym, ap, ◌∙◌, subst, append_assoc, arith, length-append}
 use Rattle.std.specs.Prelude.{Some, None, slice_get, zero, suc, option_map}
 use Rattle.std.specs.List.{All}
 use Rattle.std.proofs.Math.Seq.{take-length}
 use Rattle.std.proofs.lemmas.List.{take_more, length-take-le}
 use Rattle.std.proofs.lemmas.Option.{slice_get_within, get_or_from_slice_get, slice_get-map}
 use Rattle.wasm_syntax.specs.declared.module.Func.{Func}
-use Rattle.wasm_syntax.specs.declared.module.GlobalDef.{GlobalDef}
-use Rattle.wasm_syntax.specs.declared.module.Elem.{Elem}
 use Rattle.wasm_syntax.specs.declared.module.Module.{Module}
-use Rattle.wasm_syntax.specs.declared.instructions.BlockId.{BlockId}
 use Rattle.wasm_syntax.specs.declared.types.FuncType.{FuncType}
 use Rattle.wasm_syntax.specs.declared.types.TableType.{TableType}
 use Rattle.wasm_syntax.specs.declared.value.Value.{Value}
@@ -18,7 +15,7 @@ use Rattle.wasm_store.specs.declared.instances.FuncInst.{FuncInst}
 use Rattle.wasm_store.specs.declared.instances.FuncInst.TheVariants as f
 use Rattle.wasm_store.specs.declared.instances.GlobalInst.{GlobalInst}
 use Rattle.wasm_store.specs.Store.{Store, TableInst, MemInst, new_table, with_function, with_new_table, with_new_global, with_new_element}
-use Rattle.wasm_store.specs.Allocated.{memories_from, fresh, functions_of, type_with, null_of, tables_from, new_global, globals_from, new_items, elements_from}
+use Rattle.wasm_store.specs.Allocated.{memories_from, fresh, functions_of, type_with, null_of, tables_from}
 use Rattle.wasm_syntax.specs.declared.types.Limit.{Limit}
 use Rattle.wasm_store.specs.Memories.{new_memory, with_new_memory, with_new_data}
 use Rattle.wasm_instance.specs.Parts.{with_memories, with_datas, with_functions, with_tables, with_globals, with_elements}
@@ -46,9 +43,6 @@ joined_more {A} xs ys k y e = append_assoc xs (take k ys) (y ∷ []) ∙ ap (λ 
 joined_all : {A : Type 0} (xs ys : List A) (k : ℕ) → length ys ≤ k → k ≤ length ys → xs ++ take k ys ≡ xs ++ ys
 joined_all {A} xs ys k h l = ap (λ (zs : List A). xs ++ zs) (ap (λ (j : ℕ). take j ys) (let e : k ≡ length ys = omega arith in e) ∙ take-length ys)
 
-pub none_taken : {A : Type 0} (xs ys : List A) → xs ≡ xs ++ take 0 ys
-none_taken xs ys = sym (append-nil xs)
-
 -- One thing more in a store.
 
 pub functions_more : (s t u : Store) (gs : List FuncInst) (k : ℕ) (g : FuncInst) → t ≡ with_functions (take k gs) s → slice_get gs k ≡ Some g → u ≡ with_function g t → u ≡ with_functions (take (k + 1) gs) s
@@ -58,38 +52,17 @@ functions_more s t u gs k g e at made =
 pub functions_all : (s t : Store) (gs : List FuncInst) (k : ℕ) → length gs ≤ k → k ≤ length gs → t ≡ with_functions (take k gs) s → t ≡ with_functions gs s
 functions_all s t gs k h l e = e ∙ ap (λ (hs : List FuncInst). record s { functions = hs }) (joined_all s.functions gs k h l)
 
-pub functions_none : (s : Store) (gs : List FuncInst) → s ≡ with_functions (take 0 gs) s
-functions_none s gs = ap (λ (hs : List FuncInst). record s { functions = hs }) (none_taken s.functions gs)
-
 pub tables_more : (s t u : Store) (gs : List TableInst) (k : ℕ) (g : TableInst) → t ≡ with_tables (take k gs) s → slice_get gs k ≡ Some g → u ≡ with_new_table g t → u ≡ with_tables (take (k + 1) gs) s
 tables_more s t u gs k g e at made =
     made ∙ ap (λ (x : Store). with_new_table g x) e ∙ ap (λ (hs : List TableInst). record s { tables = hs }) (joined_more s.tables gs k g at)
-
-pub tables_all : (s t : Store) (gs : List TableInst) (k : ℕ) → length gs ≤ k → k ≤ length gs → t ≡ with_tables (take k gs) s → t ≡ with_tables gs s
-tables_all s t gs k h l e = e ∙ ap (λ (hs : List TableInst). record s { tables = hs }) (joined_all s.tables gs k h l)
-
-pub tables_none : (s : Store) (gs : List TableInst) → s ≡ with_tables (take 0 gs) s
-tables_none s gs = ap (λ (hs : List TableInst). record s { tables = hs }) (none_taken s.tables gs)
 
 pub globals_more : (s t u : Store) (gs : List GlobalInst) (k : ℕ) (g : GlobalInst) → t ≡ with_globals (take k gs) s → slice_get gs k ≡ Some g → u ≡ with_new_global g t → u ≡ with_globals (take (k + 1) gs) s
 globals_more s t u gs k g e at made =
     made ∙ ap (λ (x : Store). with_new_global g x) e ∙ ap (λ (hs : List GlobalInst). record s { globals = hs }) (joined_more s.globals gs k g at)
 
-pub globals_all : (s t : Store) (gs : List GlobalInst) (k : ℕ) → length gs ≤ k → k ≤ length gs → t ≡ with_globals (take k gs) s → t ≡ with_globals gs s
-globals_all s t gs k h l e = e ∙ ap (λ (hs : List GlobalInst). record s { globals = hs }) (joined_all s.globals gs k h l)
-
-pub globals_none : (s : Store) (gs : List GlobalInst) → s ≡ with_globals (take 0 gs) s
-globals_none s gs = ap (λ (hs : List GlobalInst). record s { globals = hs }) (none_taken s.globals gs)
-
 pub elements_more : (s t u : Store) (gs : List (List Value)) (k : ℕ) (g : List Value) → t ≡ with_elements (take k gs) s → slice_get gs k ≡ Some g → u ≡ with_new_element g t → u ≡ with_elements (take (k + 1) gs) s
 elements_more s t u gs k g e at made =
     made ∙ ap (λ (x : Store). with_new_element g x) e ∙ ap (λ (hs : List (List Value)). record s { elements = hs }) (joined_more s.elements gs k g at)
-
-pub elements_all : (s t : Store) (gs : List (List Value)) (k : ℕ) → length gs ≤ k → k ≤ length gs → t ≡ with_elements (take k gs) s → t ≡ with_elements gs s
-elements_all s t gs k h l e = e ∙ ap (λ (hs : List (List Value)). record s { elements = hs }) (joined_all s.elements gs k h l)
-
-pub elements_none : (s : Store) (gs : List (List Value)) → s ≡ with_elements (take 0 gs) s
-elements_none s gs = ap (λ (hs : List (List Value)). record s { elements = hs }) (none_taken s.elements gs)
 
 pub memories_more : (s t u : Store) (gs : List MemInst) (k : ℕ) (g : MemInst) → t ≡ with_memories (take k gs) s → slice_get gs k ≡ Some g → u ≡ with_new_memory g t → u ≡ with_memories (take (k + 1) gs) s
 memories_more s t u gs k g e at made =
@@ -126,12 +99,6 @@ table_at_place tys k ty e =
 
 pub memory_at_place : (limits : List Limit) (k : ℕ) (limit : Limit) → slice_get limits k ≡ Some limit → slice_get (memories_from limits) k ≡ Some (new_memory limit)
 memory_at_place limits k limit e = slice_get-map new_memory limits k ∙ ap (option_map new_memory) e
-
-pub global_at_place : (value : BlockId → Value) (defs : List GlobalDef) (k : ℕ) (g : GlobalDef) → slice_get defs k ≡ Some g → slice_get (globals_from value defs) k ≡ Some (new_global value g)
-global_at_place value defs k g e = slice_get-map (new_global value) defs k ∙ ap (option_map (new_global value)) e
-
-pub element_at_place : (value : BlockId → Value) (segments : List Elem) (k : ℕ) (segment : Elem) → slice_get segments k ≡ Some segment → slice_get (elements_from value segments) k ≡ Some (new_items value segment)
-element_at_place value segments k segment e = slice_get-map (new_items value) segments k ∙ ap (option_map (new_items value)) e
 
 -- what holds of all of a list holds of the element at a place
 pub all_at : {A : Type 0} (P : A → Type 0) (xs : List A) (k : ℕ) (x : A) → All P xs → slice_get xs k ≡ Some x → P x

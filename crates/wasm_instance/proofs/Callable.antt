@@ -20,10 +20,10 @@ use Rattle.wasm_valid.specs.Spaces.{then_, funcs_of, func_type}
 use Rattle.wasm_valid.specs.ModuleRules.{is_typed_module, is_start, is_start_type}
 use Rattle.wasm_store.specs.Laws.{FunctionOfIndex}
 use Rattle.wasm_store.specs.Store.{Store, module_at, instance_at, function_at, type_of, blank}
-use Rattle.wasm_store.specs.Whole.{IsWhole, IsFunction, IsBlank, HasCode, HasLists}
+use Rattle.wasm_store.specs.Whole.{IsWhole, IsFunction, IsBlank, HasCode, AllHaveCode, HasLists}
 use Rattle.wasm_store.specs.Allocated.{fresh, func_addr, functions_of, instance_of, allocated}
 use Rattle.wasm_instance.specs.Instantiation.{start_of}
-use Rattle.wasm_instance.specs.Laws.{AllHaveCode, IsStart}
+use Rattle.wasm_instance.specs.Laws.{IsStart}
 use Rattle.wasm_instance.proofs.Rules.{left_true, right_true, rules_typed}
 
 code_same : (s t : Store) (g : FuncInst) → ((i : InstAddr) → i.0 < length s.instances → instance_at t i ≡ instance_at s i) → IsFunction s g → HasCode s g → HasCode t g

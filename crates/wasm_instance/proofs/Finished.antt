@@ -16,11 +16,11 @@ use Rattle.wasm_valid.specs.ModuleRules.{is_typed_module}
 use Rattle.wasm_store.specs.declared.instances.Instance.{Instance}
 use Rattle.wasm_store.specs.Laws.{ListsStay, FunctionOfIndex}
 use Rattle.wasm_store.specs.Store.{Store, no_module, module_at, instance_at, global_at, blank}
-use Rattle.wasm_store.specs.Whole.{IsWhole, IsLater, HasLists, HasGlobal}
+use Rattle.wasm_store.specs.Whole.{IsWhole, IsLater, HasLists, HasGlobal, AllHaveCode, HasSameCode}
 use Rattle.wasm_store.specs.Allocated.{instance_of, allocated, IsAllocated}
 use Rattle.wasm_instance.specs.Instantiation.{init_segments, instantiated, start_of}
-use Rattle.wasm_instance.specs.Laws.{AllHaveCode, IsStart}
-use Rattle.wasm_instance.specs.Parts.{Ends, SameCode, module_of, offset_in}
+use Rattle.wasm_instance.specs.Laws.{IsStart}
+use Rattle.wasm_instance.specs.Parts.{Ends, module_of, offset_in}
 use Rattle.wasm_instance.proofs.Callable.{code_stays, start_is}
 
 pub zip_left : {A B : Type 0} (R : A → B → Type 0) (P : A → Type 0) → ((x : A) (y : B) → R x y → P x) → (xs : List A) (ys : List B) → AllZip R xs ys → All P xs
@@ -62,7 +62,7 @@ module _ (s : Store) (a : ModuleAddr) (imports : Instance) (made : IsAllocated s
       let by_values : Ends (init_segments (module_at s a) inst (offset_in (module_at s a) inst (map (λ (g : GlobalAddr). (global_at s g).value) imports.globals)) t) r u = subst (λ (us : List Value). Ends (init_segments (module_at s a) inst (offset_in (module_at s a) inst us) t) r u) vs by_instance in
       subst (λ (x : Store). Ends (init_segments (module_at s a) inst (offset_in (module_at s a) inst (map (λ (g : GlobalAddr). (global_at s g).value) imports.globals)) x) r u) e by_values
 
-  module _ (u : Store) (same : SameCode t u) (l : IsLater t u) where
+  module _ (u : Store) (same : HasSameCode t u) (l : IsLater t u) where
     pub instance_after : instance_at u i ≡ inst
     instance_after = ap (λ (is : List Instance). slice_index_or is i.0 (blank (record { 0 = 0 }))) same.instances ∙ instance_there
 

@@ -54,9 +54,6 @@ small_more limits k d h before few =
     ∙ ap (λ (b : Bool). b && list_all is_small (slice_index_or limits k d ∷ [])) before
     ∙ ap (λ (b : Bool). b && true) (le-leb (slice_index_or limits k d).min most_pages few)
 
-pub counted_first : (s : Store) (limits : List Limit) (pages : ℕ) → pages ≡ all_pages s.memories → pages ≤ most_pages_in_all → AreCounted s limits 0 pages
-counted_first s limits pages e few = record { small = refl; count = (let k : pages ≡ all_pages s.memories + 0 = omega (arith, e) in k); few = few }
-
 pub counted_more : (s : Store) (limits : List Limit) (k pages : ℕ) (limit : Limit) → k < length limits → limit ≡ slice_index_or limits k limit → AreCounted s limits k pages → limit.min ≤ most_pages → pages + limit.min ≤ most_pages_in_all → AreCounted s limits (k + 1) (pages + limit.min)
 counted_more s limits k pages limit h at before small few =
     let more : sum_of (take (k + 1) limits) ≡ sum_of (take k limits) + limit.min = sum_more limits k limit h ∙ ap (λ (l : Limit). sum_of (take k limits) + l.min) (sym at) in

@@ -1,9 +1,9 @@
 -- A module's things are added kind by kind, and then it is allocated.
-use Rattle.std.proofs.Common.{◌≡◌, ℕ, ◌+◌, ◌<◌, ◌≤◌, List, [], ◌∷◌, ◌++◌, length, refl, sym, ap, ◌∙◌, subst, arith, length-append}
+use Rattle.std.proofs.Common.{◌≡◌, ℕ, ◌+◌, ◌<◌, ◌≤◌, List, [], ◌∷◌, ◌++◌, length, sym, ap, ◌∙◌, subst, arith, length-append}
 use Rattle.std.specs.Prelude.{true, slice_set, map, nat_le}
 use Rattle.std.specs.List.{All, list_all}
 use Rattle.std.proofs.Math.Seq.{set-append_seam}
-use Rattle.std.proofs.lemmas.List.{get_or_push, get_or-append-add}
+use Rattle.std.proofs.lemmas.List.{get_or-append-add}
 use Rattle.std.proofs.lemmas.List.Elements.{All-weaker, All-nil, All-cons}
 use Rattle.std.proofs.lemmas.Bool.{leb-true}
 use Rattle.wasm_syntax.specs.declared.types.TableType.{TableType}
@@ -24,8 +24,8 @@ use Rattle.raw_memory.specs.Bytes.{most_pages}
 use Rattle.wasm_valid.specs.ModuleRules.{is_typed_module}
 use Rattle.wasm_store.specs.declared.instances.Instance.{Instance}
 use Rattle.wasm_store.specs.declared.instances.GlobalInst.{GlobalInst}
-use Rattle.wasm_store.specs.Store.{Store, module_at, instance_at, global_at, blank, most_entries, with_new_instance, with_instance}
-use Rattle.wasm_store.specs.Whole.{IsWhole, IsLive, AreLive, IsGlobal, IsBlank, HasLists}
+use Rattle.wasm_store.specs.Store.{Store, module_at, global_at, blank, most_entries, with_new_instance, with_instance}
+use Rattle.wasm_store.specs.Whole.{IsWhole, IsLive, AreLive, IsGlobal, HasLists}
 use Rattle.wasm_store.specs.Allocated.{fresh, func_addr, table_addr, mem_addr, global_addr, elem_addr, data_addr, instance_of, value_of, functions_of, tables_from, memories_from, globals_from, elements_from, allocated, AreImports, IsAllocated, ModulesAreAllocated}
 use Rattle.wasm_instance.specs.Instantiation.{are_tables_within, are_memories_within, is_within_limits}
 use Rattle.wasm_instance.specs.Parts.{with_functions, with_tables, with_memories, with_globals, with_elements, with_datas, datas_from, constant_in}
@@ -76,9 +76,6 @@ allocates law s a imports whole live typed limits given =
       mems = few_memories (module_at s a).mems (left_true _ _ memories);
       pages = leb-true _ _ (right_true _ _ memories);
     }) given
-
-pub tables_within : (s : Store) (m : Module) → is_within_limits s m ≡ true → are_tables_within m.tables ≡ true
-tables_within s m limits = left_true (are_tables_within m.tables) _ limits
 
 pub memories_within : (s : Store) (m : Module) → is_within_limits s m ≡ true → are_memories_within s m.mems ≡ true
 memories_within s m limits = right_true (are_tables_within m.tables) _ limits
@@ -224,17 +221,8 @@ module _ (s : Store) (a : ModuleAddr) (imports : Instance) where
       } in
       subst (λ (x : Store). HasLists x i) (sym e) (subst (λ (j : Instance). HasLists with_all j) (sym same) there)
 
-  there_blank : (i : InstAddr) → i.0 ≡ length s.instances → instance_at with_all i ≡ blank a
-  there_blank i first = get_or_push s.instances (blank a) (blank (record { 0 = 0 })) i.0 (sym first)
-
-  pub blank_there : (t : Store) (i : InstAddr) → i.0 ≡ length s.instances → t ≡ with_all → instance_at t i ≡ blank a
-  blank_there t i first e = ap (λ (x : Store). instance_at x i) e ∙ there_blank i first
-
   pub allocated_there : (t u : Store) (i : InstAddr) (lists : Instance) → i.0 ≡ length s.instances → lists ≡ inst → t ≡ with_all → u ≡ with_instance i lists t → u ≡ allocated a imports s
   allocated_there t u i lists first same e made =
       made ∙ ap (λ (x : Store). with_instance i lists x) e ∙ ap (λ (j : Instance). with_instance i j with_all) same
       ∙ ap (λ (is : List Instance). record with_all { instances = is })
       (ap (λ (n : ℕ). slice_set (s.instances ++ blank a ∷ []) n inst) first ∙ set-append_seam s.instances (blank a) [] inst)
-
-pub blank_is_blank : (i : Instance) (a : ModuleAddr) → i ≡ blank a → IsBlank i
-blank_is_blank i a e = subst IsBlank (sym e) (record { funcs = refl; tables = refl; mems = refl; globals = refl; elems = refl; datas = refl })

@@ -1,6 +1,6 @@
 -- Segments one after the other.
 use Rattle.std.proofs.Common.{◌≡◌, ℕ, ◌+◌, ◌<◌, List, [], ◌∷◌, length, drop, refl, sym, ap, ◌∙◌, subst, arith}
-use Rattle.std.specs.Prelude.{true, Some, Result, slice_get, slice_index_or, zero, suc}
+use Rattle.std.specs.Prelude.{true, Some, slice_get, slice_index_or, zero, suc}
 use Rattle.std.specs.List.{AllZip}
 use Rattle.std.proofs.Math.Seq.{drop-length}
 use Rattle.std.proofs.lemmas.List.{at_drop_more}
@@ -20,11 +20,11 @@ use Rattle.wasm_valid.specs.Spaces.{mems_of}
 use Rattle.wasm_valid.specs.ModuleRules.{is_typed_module}
 use Rattle.wasm_store.specs.declared.instances.Instance.{Instance}
 use Rattle.wasm_store.specs.Store.{Store, no_module, blank, module_at, instance_at, table_at, element_at}
-use Rattle.wasm_store.specs.Whole.{IsLater, HasLists, HasElement, HasData, AreTyped}
+use Rattle.wasm_store.specs.Whole.{IsLater, HasLists, HasElement, HasData, AreTyped, HasSameCode}
 use Rattle.wasm_store.specs.Allocated.{table_addr, mem_addr}
 use Rattle.wasm_store.specs.Laws.{TableOfIndex, ElementOfIndex, MemoryOfIndex, DataOfIndex}
-use Rattle.wasm_instance.specs.Instantiation.{Outcome, goes, traps, and_then, table_of, memory_of, in_order, init_elements, init_datas, init_segments}
-use Rattle.wasm_instance.specs.Parts.{Ends, SameCode, module_of}
+use Rattle.wasm_instance.specs.Instantiation.{Outcome, goes, traps, and_then, table_of, memory_of, in_order}
+use Rattle.wasm_instance.specs.Parts.{module_of}
 use Rattle.wasm_instance.proofs.Rules.{table_is_there, memory_is_there}
 
 pub zip_length : {A B : Type 0} (R : A → B → Type 0) (xs : List A) (ys : List B) → AllZip R xs ys → length xs ≡ length ys
@@ -113,31 +113,20 @@ module _ (A B : Type 0) (f : A → B → Store → Outcome) (xs : List A) (ys : 
 -- what is left gives what the whole gives
 pub record IsLeft (A B : Type 0) (f : A → B → Store → Outcome) (xs : List A) (ys : List B) (s : Store) (k : ℕ) (t : Store) : Type 0 where
   pub left : in_order f (drop k xs) (drop k ys) t ≡ in_order f xs ys s
-  pub same : SameCode s t
+  pub same : HasSameCode s t
   pub later : IsLater s t
 
-pub same_code : (s t u : Store) → SameCode s t → SameCode t u → SameCode s u
+pub same_code : (s t u : Store) → HasSameCode s t → HasSameCode t u → HasSameCode s u
 same_code s t u h k = record { modules = k.modules ∙ h.modules; instances = k.instances ∙ h.instances; functions = k.functions ∙ h.functions }
 
-pub instance_kept : (s t : Store) (i : InstAddr) → SameCode s t → instance_at t i ≡ instance_at s i
+pub instance_kept : (s t : Store) (i : InstAddr) → HasSameCode s t → instance_at t i ≡ instance_at s i
 instance_kept s t i same = ap (λ (is : List Instance). slice_index_or is i.0 (blank (record { 0 = 0 }))) same.instances
 
-pub module_kept : (s t : Store) (i : InstAddr) → SameCode s t → module_of t i ≡ module_of s i
+pub module_kept : (s t : Store) (i : InstAddr) → HasSameCode s t → module_of t i ≡ module_of s i
 module_kept s t i same =
     ap (λ (j : Instance). module_at t j.module) (instance_kept s t i same) ∙ ap (λ (ms : List Module). slice_index_or ms (instance_at s i).module.0 no_module) same.modules
 
 -- what is told of the store as it is, told of the instance as it was
-pub told : (P : Instance → Module → Type 0) (s t : Store) (i : InstAddr) → SameCode s t → P (instance_at t i) (module_of t i) → P (instance_at s i) (module_of s i)
+pub told : (P : Instance → Module → Type 0) (s t : Store) (i : InstAddr) → HasSameCode s t → P (instance_at t i) (module_of t i) → P (instance_at s i) (module_of s i)
 told P s t i same h =
     subst (λ (m : Module). P (instance_at s i) m) (module_kept s t i same) (subst (λ (j : Instance). P j (module_of t i)) (instance_kept s t i same) h)
-
-pub lists_told : (s t : Store) (i : InstAddr) → SameCode s t → HasLists t (instance_at s i) → HasLists t (instance_at t i)
-lists_told s t i same h = subst (λ (j : Instance). HasLists t j) (sym (instance_kept s t i same)) h
-
--- Both rows.
-
-pub both_end : (m : Module) (i : Instance) (offset : BlockId → ℕ) (s t u : Store) (r : Result (Unit {0}) Trap) → init_elements m i offset s ≡ goes t → Ends (init_datas m i offset t) r u → Ends (init_segments m i offset s) r u
-both_end m i offset s t u r e h = subst (λ (o : Outcome). Ends (and_then o (init_datas m i offset)) r u) (sym e) h
-
-pub first_traps : (m : Module) (i : Instance) (offset : BlockId → ℕ) (s t : Store) (because : Trap) → init_elements m i offset s ≡ traps because t → init_segments m i offset s ≡ traps because t
-first_traps m i offset s t because e = ap (λ (o : Outcome). and_then o (init_datas m i offset)) e

@@ -1,18 +1,13 @@
 -- What holds of a store after an instantiation, for who calls functions in it.
 use Rattle.std.specs.Prelude.{◌≡◌, ◌<◌, [], Option, Some, None, length}
-use Rattle.std.specs.List.{All}
 use Rattle.wasm_syntax.specs.declared.addresses.ModuleAddr.{ModuleAddr}
 use Rattle.wasm_syntax.specs.declared.addresses.FuncAddr.{FuncAddr}
 use Rattle.wasm_store.specs.declared.instances.Instance.{Instance}
 use Rattle.wasm_store.specs.Store.{Store, instance_at, function_at, type_of}
-use Rattle.wasm_store.specs.Whole.{HasLists, HasCode}
+use Rattle.wasm_store.specs.Whole.{HasLists}
 use Rattle.wasm_store.specs.Allocated.{instance_of}
 use Rattle.wasm_instance.specs.declared.modules.Instantiated.{Instantiated}
 use Rattle.wasm_instance.specs.declared.modules.Instantiated.TheVariants as ends
-
--- each function is one of a module, whose instance has its lists
-abbrev pub AllHaveCode : Store → Type 0
-AllHaveCode s = All (HasCode s) s.functions
 
 -- a start function takes nothing and gives nothing
 abbrev pub IsStart : Store → Option FuncAddr → Type 0

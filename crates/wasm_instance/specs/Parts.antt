@@ -54,9 +54,3 @@ offset_in m i values id = number_of (constant_in m i.funcs values id)
 abbrev pub Ends : Outcome → Result (Unit {0}) Trap → Store → Type 0
 Ends o (Ok u) new = o ≡ goes new
 Ends o (Err t) new = o ≡ traps t new
-
--- modules, instances and functions are as they were
-pub record SameCode (old new : Store) : Type 0 where
-  pub modules : new.modules ≡ old.modules
-  pub instances : new.instances ≡ old.instances
-  pub functions : new.functions ≡ old.functions

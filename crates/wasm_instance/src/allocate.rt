@@ -15,11 +15,11 @@ use sqlite_items::Items;
 use std::alloc::{AllocError, Global};
 use wasm_store::laws::{modules_are_allocated, order, types_stay};
 use wasm_store::{
-    FuncInst, GlobalInst, Instance, MOST_ENTRIES, MOST_PAGES, MOST_PAGES_IN_ALL, Store,
+    FuncInst, GlobalInst, Instance, MOST_ENTRIES, MOST_PAGES, MOST_PAGES_IN_ALL, SharedType, Store,
 };
 use wasm_syntax::{
-    Data, DataAddr, Elem, ElemAddr, Func, FuncAddr, FuncType, GlobalAddr, GlobalDef, InstAddr,
-    Limit, MemAddr, Module, ModuleAddr, TableAddr, TableType, Value,
+    Data, DataAddr, Elem, ElemAddr, Func, FuncAddr, GlobalAddr, GlobalDef, InstAddr, Limit,
+    MemAddr, Module, ModuleAddr, TableAddr, TableType, Value,
 };
 
 /// Whether none of these tables has more entries than the embedding allows.
@@ -58,16 +58,28 @@ fn func_at(module: &Module, k: usize) -> &Func
     &module.funcs.as_slice()[k]
 }
 
-fn type_at(module: &Module, x: u32) -> &FuncType
-    requires { x < length «module».now.types }
-    ensures { slice_get «module».now.types x ≡ Some result.now }
+/// The types of a module, each of which is copied once, for its functions to share.
+fn shared_types(alloc: Global, module: &Module) -> Result<Vec<SharedType>, AllocError>
+    ensures { IfOk result (λ types. types.items ≡ «module».now.types) }
 {
-    &module.types.as_slice()[x as usize]
+    let mut types = Vec::with_capacity(alloc, module.types.len())?;
+    for ty in module.types.as_slice() {
+        let copy = ty.copy(alloc)?;
+        types.push(SharedType::new(alloc, copy)?)?;
+    }
+    Ok(types)
 }
 
-/// One of the module's own functions.
+fn type_at(types: &[SharedType], x: u32) -> &SharedType
+    requires { x < length types.now }
+    ensures { slice_get types.now x ≡ Some result.now }
+{
+    &types[x as usize]
+}
+
+/// One of the module's own functions, where these are the types of the module.
 fn own_func(
-    alloc: Global,
+    types: &[SharedType],
     store: &Store,
     a: ModuleAddr,
     i: InstAddr,
@@ -76,13 +88,14 @@ fn own_func(
     requires live { a.0 < length store.now.modules }
     requires live_instance { i.0 < length store.now.instances }
     requires of_module { (instance_at store.now i).module ≡ a }
+    requires types { types.now ≡ (module_at store.now a).types }
     requires within { k < length (module_at store.now a).funcs }
     ensures value { IfOk result (λ f. slice_get (functions_of (module_at store.now a) i 0 (module_at store.now a).funcs) k ≡ Some f) }
     ensures fits { IfOk result (IsFunction store.now) }
 {
     let module = store.module(a).module();
     let own = func_at(module, k);
-    let ty = type_at(module, own.ty).copy(alloc)?;
+    let ty = type_at(types, own.ty).clone()?;
     Ok(FuncInst::Wasm {
         ty,
         instance: i,
@@ -106,9 +119,10 @@ fn add_functions(
     ensures later { IsLater store.old store.new }
 {
     order();
+    let types = shared_types(alloc, store.module(a).module())?;
     let count = store.module(a).module().funcs.len();
     for k in 0..count {
-        let func = own_func(alloc, store, a, i, k)?;
+        let func = own_func(types.as_slice(), store, a, i, k)?;
         funcs.push(store.alloc_func(alloc, func)?)?;
     }
     Ok(())
@@ -252,11 +266,11 @@ fn items_of(
 ) -> Result<Items<Value>, AllocError>
     ensures { IfOk result (λ items. items ≡ new_items (constant_in «module».now funcs.now values.now) segment.now) }
 {
-    let mut items = Items::new(alloc);
+    let mut items = Vec::with_capacity(alloc, segment.items.len())?;
     for id in segment.items.as_slice() {
         items.push(value(module, funcs, values, *id))?;
     }
-    Ok(items)
+    Ok(Items::from_vec(items))
 }
 
 /// One of the module's element segments.
@@ -341,6 +355,20 @@ fn add_datas(
     Ok(())
 }
 
+/// These addresses, with room for those of the module's own functions.
+fn with_room(
+    alloc: Global,
+    module: &Module,
+    funcs: &[FuncAddr],
+) -> Result<Items<FuncAddr>, AllocError>
+    ensures { IfOk result (λ all. all ≡ funcs.now) }
+{
+    let count = funcs.len().saturating_add(module.funcs.len());
+    let mut all = Vec::with_capacity(alloc, count)?;
+    all.extend_from_slice(funcs)?;
+    Ok(Items::from_vec(all))
+}
+
 /// The module at `a` with all its things, and the address of its instance. `values` are those of the imported globals.
 pub(crate) fn allocate(
     alloc: Global,
@@ -361,7 +389,7 @@ pub(crate) fn allocate(
     order();
     modules_are_allocated();
     store.whole();
-    let mut funcs = Items::from_slice(alloc, imports.funcs.as_slice())?;
+    let mut funcs = with_room(alloc, store.module(a).module(), imports.funcs.as_slice())?;
     let mut tables = Items::from_slice(alloc, imports.tables.as_slice())?;
     let mut mems = Items::from_slice(alloc, imports.mems.as_slice())?;
     let mut globals = Items::from_slice(alloc, imports.globals.as_slice())?;

@@ -2,10 +2,10 @@
 
 ghost use Rattle.std.specs.Prelude.{◌≡◌, ◌<◌, [], length, IfOk, OnErr};
 ghost use Rattle.wasm_store.specs.Store.{module_at};
-ghost use Rattle.wasm_store.specs.Whole.{IsLater};
+ghost use Rattle.wasm_store.specs.Whole.{AllHaveCode, IsLater};
 ghost use Rattle.wasm_store.specs.Allocated.{AreImports};
 ghost use Rattle.wasm_instance.specs.Instantiation.{Instantiates};
-ghost use Rattle.wasm_instance.specs.Laws.{IsThere, AllHaveCode};
+ghost use Rattle.wasm_instance.specs.Laws.{IsThere};
 
 use crate::allocate::{allocate, is_within_limits};
 use crate::constants::imported_values;

@@ -8,9 +8,9 @@ ghost use Rattle.wasm_syntax.specs.declared.module.Data.{Data};
 ghost use Rattle.wasm_valid.specs.ModuleRules.{is_typed_module};
 ghost use Rattle.wasm_store.specs.Store.{module_at, instance_at, table_at, element_at};
 ghost use Rattle.wasm_store.specs.Memories.{memory_at, data_at};
-ghost use Rattle.wasm_store.specs.Whole.{IsLater, HasLists, AreTyped};
+ghost use Rattle.wasm_store.specs.Whole.{HasSameCode, IsLater, HasLists, AreTyped};
 ghost use Rattle.wasm_instance.specs.Instantiation.{fits, table_of, memory_of, write_element, write_data, init_element, init_elements, init_data, init_datas, init_segments, start_of};
-ghost use Rattle.wasm_instance.specs.Parts.{Ends, SameCode, module_of, offset_in};
+ghost use Rattle.wasm_instance.specs.Parts.{Ends, module_of, offset_in};
 
 use crate::constants::{number, value};
 use wasm_store::Store;
@@ -70,7 +70,7 @@ fn write_whole(store: &mut Store, table: TableAddr, e: ElemAddr, at: u32) -> Res
     requires live_segment { e.0 < length store.old.elements }
     requires typed { AreTyped store.old (element_at store.old e) (table_at store.old table).elem }
     ensures ends { Ends (write_element (fits (table_at store.old table).entries at (length (element_at store.old e))) store.old table e at) result store.new }
-    ensures same { SameCode store.old store.new }
+    ensures same { HasSameCode store.old store.new }
     ensures later { IsLater store.old store.new }
 {
     order();
@@ -91,7 +91,7 @@ fn write_segment(store: &mut Store, i: InstAddr, values: &[Value], k: usize) -> 
     requires lists { HasLists store.old (instance_at store.old i) }
     requires within { k < length (instance_at store.old i).elems }
     ensures ends { (e : ElemAddr) (segment : Elem) → slice_get (instance_at store.old i).elems k ≡ Some e → slice_get (module_of store.old i).elems k ≡ Some segment → Ends (init_element (instance_at store.old i) (offset_in (module_of store.old i) (instance_at store.old i) values.now) e segment.mode store.old) result store.new }
-    ensures same { SameCode store.old store.new }
+    ensures same { HasSameCode store.old store.new }
     ensures later { IsLater store.old store.new }
 {
     order();
@@ -116,7 +116,7 @@ fn write_elements(store: &mut Store, i: InstAddr, values: &[Value]) -> Result<()
     requires live { i.0 < length store.old.instances }
     requires lists { HasLists store.old (instance_at store.old i) }
     ensures ends { Ends (init_elements (module_of store.old i) (instance_at store.old i) (offset_in (module_of store.old i) (instance_at store.old i) values.now) store.old) result store.new }
-    ensures same { SameCode store.old store.new }
+    ensures same { HasSameCode store.old store.new }
     ensures later { IsLater store.old store.new }
 {
     order();
@@ -167,7 +167,7 @@ fn write_bytes(store: &mut Store, memory: MemAddr, d: DataAddr, at: u32) -> Resu
     requires live { memory.0 < length store.old.memories }
     requires live_segment { d.0 < length store.old.datas }
     ensures ends { Ends (write_data (fits (memory_at store.old memory).bytes at (length (data_at store.old d))) store.old memory d at) result store.new }
-    ensures same { SameCode store.old store.new }
+    ensures same { HasSameCode store.old store.new }
     ensures later { IsLater store.old store.new }
 {
     order();
@@ -193,7 +193,7 @@ fn write_data_segment(
     requires lists { HasLists store.old (instance_at store.old i) }
     requires within { k < length (instance_at store.old i).datas }
     ensures ends { (d : DataAddr) (segment : Data) → slice_get (instance_at store.old i).datas k ≡ Some d → slice_get (module_of store.old i).datas k ≡ Some segment → Ends (init_data (instance_at store.old i) (offset_in (module_of store.old i) (instance_at store.old i) values.now) d segment.mode store.old) result store.new }
-    ensures same { SameCode store.old store.new }
+    ensures same { HasSameCode store.old store.new }
     ensures later { IsLater store.old store.new }
 {
     order();
@@ -215,7 +215,7 @@ fn write_datas(store: &mut Store, i: InstAddr, values: &[Value]) -> Result<(), T
     requires live { i.0 < length store.old.instances }
     requires lists { HasLists store.old (instance_at store.old i) }
     ensures ends { Ends (init_datas (module_of store.old i) (instance_at store.old i) (offset_in (module_of store.old i) (instance_at store.old i) values.now) store.old) result store.new }
-    ensures same { SameCode store.old store.new }
+    ensures same { HasSameCode store.old store.new }
     ensures later { IsLater store.old store.new }
 {
     order();
@@ -232,7 +232,7 @@ pub(crate) fn write_segments(store: &mut Store, i: InstAddr, values: &[Value]) -
     requires live { i.0 < length store.old.instances }
     requires lists { HasLists store.old (instance_at store.old i) }
     ensures ends { Ends (init_segments (module_of store.old i) (instance_at store.old i) (offset_in (module_of store.old i) (instance_at store.old i) values.now) store.old) result store.new }
-    ensures same { SameCode store.old store.new }
+    ensures same { HasSameCode store.old store.new }
     ensures later { IsLater store.old store.new }
 {
     order();

@@ -65,27 +65,27 @@ found_in s k v h =
 abbrev pub FoundIn : Store → Simple → View → Type 0
 FoundIn s k v = IsFound (module_at s (instance_at s v.instance).module) k v
 
-found : (s : Store) (k : Simple) (v : View) → CanPerform s k v → FoundIn s k v
+pub found : (s : Store) (k : Simple) (v : View) → CanPerform s k v → FoundIn s k v
 found s k v h = subst (λ m. IsFound m k v) (ap (module_at s) (sym h.fits.module_is)) (found_in s k v h)
 
 -- so it is of an instruction with this type
-record Has (v : View) (ts gs : List ValType) : Type 0 where
-  tops : IsTops ts v.top.values
-  room : length gs + (length v.top.values - length ts) + count_of v.outer ≤ v.room
+pub record Has (v : View) (ts gs : List ValType) : Type 0 where
+  pub tops : IsTops ts v.top.values
+  pub room : length gs + (length v.top.values - length ts) + count_of v.outer ≤ v.room
 
 has_goes : (v : View) (ts gs : List ValType) (g : Signature) → goes ts gs ≡ Some g → IsTops g.takes v.top.values → length g.gives + (length v.top.values - length g.takes) + count_of v.outer ≤ v.room → Has v ts gs
 has_goes v ts gs g e t r =
     let same : g ≡ record { takes = ts; gives = gs } = sym (same_Some _ _ e) in
     subst (λ (k : Signature). Has v k.takes k.gives) same (record { tops = t; room = r })
 
-has : (v : View) (m : Module) (k : Simple) (ts gs : List ValType) (f : IsFound m k v) → goes ts gs ≡ Some f.type → Has v ts gs
+pub has : (v : View) (m : Module) (k : Simple) (ts gs : List ValType) (f : IsFound m k v) → goes ts gs ≡ Some f.type → Has v ts gs
 has v m k ts gs f e = has_goes v ts gs f.type e f.tops f.room
 
 then_some : {A : Type 0} (o : Option A) (f : A → Option Signature) (g : Signature) → then_ o f ≡ Some g → (a : A) × (o ≡ Some a) × (f a ≡ Some g)
 then_some None f g e = absurd (let h : ◌≡◌ None (Some g) = e in cc)
 then_some (Some a) f g e = (a, refl, e)
 
-both : (a b : Bool) → (a && b) ≡ true → (a ≡ true) × (b ≡ true)
+pub both : (a b : Bool) → (a && b) ≡ true → (a ≡ true) × (b ≡ true)
 both true true e = (refl, refl)
 both true false e = cc
 both false b e = cc
@@ -96,7 +96,7 @@ live s k v h = h.fits.live
 pub has_room : (s : Store) (k : Simple) (v : View) → CanPerform s k v → operands_of v ≤ v.room
 has_room s k v h = operands_fit s (h.instr ∷ h.rest) v h.fits
 
-room_for_one : (v : View) (t : ValType) → Has v [] (t ∷ []) → operands_of v < v.room
+pub room_for_one : (v : View) (t : ValType) → Has v [] (t ∷ []) → operands_of v < v.room
 room_for_one v t h = omega (arith, h.room)
 
 -- ---- numbers
@@ -120,7 +120,7 @@ pub convert_tops : (s : Store) (v : View) (op : ConvOp) → CanPerform s (p.Conv
 convert_tops s v op h = let f = found s (p.Convert op) v h in (has v _ (p.Convert op) (number_type (source_of op) ∷ []) _ f f.type_is).tops
 
 -- a number has the bits from which it is extended
-within : (instr : Instr) → is_within (sort_of instr) ≡ true
+pub within : (instr : Instr) → is_within (sort_of instr) ≡ true
 within i.Unreachable = refl
 within _ = refl
 
@@ -164,10 +164,10 @@ local_tee_some s v x h = let f = found s (p.LocalTee x) v h in let t = then_some
 
 -- ---- what an index of the instance names
 
-named : {A : Type 0} (xs : List A) (x : ℕ) (P : A → Type 0) (a : A) → slice_get xs x ≡ Some a → P a → Names xs x P
+pub named : {A : Type 0} (xs : List A) (x : ℕ) (P : A → Type 0) (a : A) → slice_get xs x ≡ Some a → P a → Names xs x P
 named xs x P a e h = (slice_get_within xs x a e, λ b f. subst P (same_Some _ _ (sym e ∙ f)) h)
 
-abbrev inst : Store → View → Instance
+abbrev pub inst : Store → View → Instance
 inst s v = instance_at s v.instance
 
 func_there : (o : Option ℕ) (f : ℕ → Option FuncType) → is_some (then_ o f) ≡ true → (k : ℕ) × (o ≡ Some k)
@@ -240,7 +240,7 @@ number_is (w.Func a) e = cc
 number_is w.ExternNull e = cc
 number_is (w.Extern a) e = cc
 
-number_first : (ts : List ValType) (vs : List Value) → IsTops (y.I32 ∷ ts) vs → IsNumberFirst vs
+pub number_first : (ts : List ValType) (vs : List Value) → IsTops (y.I32 ∷ ts) vs → IsNumberFirst vs
 number_first ts [] h = absurd h
 number_first ts (a ∷ vs) h = let n = number_is a h.0 in subst (λ u. IsNumberFirst (u ∷ vs)) (sym n.1) tt
 
@@ -263,7 +263,7 @@ between_numbers t (a ∷ b ∷ c ∷ vs) h =
     let k = number_is c h.1.1.0 in
     subst (λ u. IsBetweenNumbers (u ∷ b ∷ c ∷ vs)) (sym n.1) (subst (λ u. IsBetweenNumbers (w.I32 n.0 ∷ b ∷ u ∷ vs)) (sym k.1) tt)
 
-three_numbers : (vs : List Value) → IsTops (y.I32 ∷ y.I32 ∷ y.I32 ∷ []) vs → IsThreeNumbers vs
+pub three_numbers : (vs : List Value) → IsTops (y.I32 ∷ y.I32 ∷ y.I32 ∷ []) vs → IsThreeNumbers vs
 three_numbers [] h = absurd h
 three_numbers (a ∷ []) h = absurd h.1
 three_numbers (a ∷ b ∷ []) h = absurd h.1.1

@@ -33,6 +33,7 @@ use Rattle.wasm_machine.proofs.Calling.{Callable, callable, calls_waits, calls_a
 use Rattle.std.proofs.lemmas.List.Elements.{All-get_or}
 use Rattle.wasm_store.specs.Store.{no_table}
 use Rattle.wasm_store.specs.Whole.{value_type, HasType, IsWhole, IsTable}
+use Rattle.wasm_machine.proofs.Growing.{none_by}
 use Rattle.wasm_machine.proofs.Parts.{zip_results, back, others, within}
 
 -- Lists of types.
@@ -138,6 +139,7 @@ stepped_indirect s v u z x y k a r args h t0 q b e c =
     through s (state_of u) instr x y k v.top.values u.top.values b'.type b'.table h.sort_is t0 g b'.table_is ∙ entry_acts s (state_of u) b'.type u.top.values a _ (sym b'.found_is) in
     record {
       makes = back s v u z instr (Call a args) s q (refl, call_makes s u instr v.top.values a args.items z act_is (indirect_call_can s v u x y k a r h t0 q b e) c);
+      grew = none_by s v instr (sort.CallIndirect x y) (Call a args) h.sort_is refl refl;
       fits = λ R f.
           let n = indirect_can s v u x y k a f h.sort_is t0 q b' in
           (n.live, zip_results s (type_of (function_at s a)).params args.items (calls_arguments s instr v u z a args.items f n c), calls_waits s instr v u z a args.items f n c);
@@ -164,6 +166,7 @@ stepped_indirect_trap s v u x y k cause r whole h t0 q b e =
     let act_is : act s F instr v.top.values ≡ goes s F.locals u.top.values (trap cause) =
     through s F instr x y k v.top.values u.top.values b'.type b'.table h.sort_is t0 g ta ∙ entry_traps s F b'.type u.top.values cause _ (λ en he. entry_ref s b'.table k en whole live elem he) (sym b'.found_is) in
     record {
+      grew = none_by s v instr (sort.CallIndirect x y) (Trapped cause) h.sort_is refl refl;
       makes = (refl, λ G. before_traps s (module_for s v) v instr v.locals u.top.values cause act_is G);
       fits = λ R f. tt;
     }

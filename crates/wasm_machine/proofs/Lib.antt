@@ -10,7 +10,9 @@ pub mod Beginning
 pub mod Branching
 pub mod Calling
 pub mod Finding
+pub mod FindingMemories
 pub mod Charging
+pub mod Growing
 pub mod Entered
 pub mod Stepping
 pub mod Parts
@@ -19,4 +21,5 @@ pub mod Performing
 pub mod IndirectLaws
 pub mod StepLaws
 pub mod Supplied
+pub mod Extending
 mod Worked

@@ -29,10 +29,12 @@ use Rattle.wasm_machine.specs.Terms.{FrameState, here}
 use Rattle.wasm_machine.specs.Reduction.{goes, branches, act, act_by, begun, nested, call, call_index, branch_if, branch_table, module_of, rewrites}
 use Rattle.wasm_machine.specs.View.{View, with_values, rest_of, state_of, module_for, last_instr, term_of, term_round, left, left_to, Open, IsLinked}
 use Rattle.wasm_machine.specs.Control.{CanBegin, Begins, CanBranch, Branches, CanCall, Calls, IsNumberFirst, chosen_label, Ends}
+use Rattle.wasm_machine.specs.Growth.{grown_in, growth_of}
 use Rattle.wasm_machine.specs.Fits.{FitsAt, Fits}
 use Rattle.wasm_machine.specs.Steps.{Makes, LeavesFit, term_before}
 use Rattle.wasm_machine.specs.Stepping.{fetched_instr, FitsBut, At, Stepped}
 use Rattle.wasm_machine.proofs.Terms.{before_goes, before_returns, step_leaves, step_ends}
+use Rattle.wasm_machine.proofs.Growing.{none_by, branch_none, growth_ended, end_none}
 use Rattle.wasm_machine.proofs.Stepping.{loop_is, begins_makes, branch_makes, call_makes}
 use Rattle.wasm_machine.proofs.Going.{linked_same}
 use Rattle.wasm_machine.proofs.Beginning.{if_first, can_begin, can_begin_if, begins_fits, begins_if_fits, IsPart}
@@ -77,6 +79,7 @@ br_can s v l h = can_branch s (others s v) v v l h.fits (br_target s (fetched_in
 pub stepped_br : (s : Store) (v x : View) (l : ℕ) (e : Effect) → At s (sort.Br l) v → Branches l v e x → Stepped s v e s x
 stepped_br s v x l e h b = record {
   makes = branch_makes s v (fetched_instr s v) v.top.values l e x (ap (λ k. act_by s (state_of v) (fetched_instr s v) k v.top.values) h.sort_is) (br_can s v l h) h.fits.typed.linked b;
+  grew = none_by s v (fetched_instr s v) (sort.Br l) e h.sort_is (branch_none l v e x b) refl;
   fits = λ R f. branch_leaves s (others s v) v v x l e f (br_target s (fetched_instr s v) (rest_of (module_for s v) v) v l f h.sort_is) f.operands.0 refl b;
 }
 
@@ -95,6 +98,7 @@ br_if_can s v u l k h t q = can_branch s (others s v) v u l h.fits (br_if_target
 pub stepped_not : (s : Store) (v u : View) (l k : ℕ) → At s (sort.BrIf l) v → v.top.values ≡ w.I32 k ∷ u.top.values → u ≡ with_values u.top.values v → k ≡ 0 → Stepped s v Went s u
 stepped_not s v u l k h t q z = record {
   makes = λ F. before_goes s (module_for s v) v (fetched_instr s v) s v.locals u.top.values here (br_if_goes s (state_of v) (fetched_instr s v) l k v.top.values u.top.values h.sort_is t z) F ∙ ap (λ y. rewrites s F (term_of s y)) (sym q);
+  grew = none_by s v (fetched_instr s v) (sort.BrIf l) Went h.sort_is refl refl;
   fits = λ R f. let a = br_if_stays s (fetched_instr s v) (rest_of (module_for s v) v) v u l k f h.sort_is t q in
       subst (λ is. FitsAt s R is [] u) (ap (λ y. rest_of (module_for s y) y) (sym q)) a;
 }
@@ -111,6 +115,7 @@ linked_there s v u q h = subst (CanBranchLinked s) (sym q) (linked_with s v u.to
 pub stepped_if : (s : Store) (v u x : View) (l k : ℕ) (e : Effect) → At s (sort.BrIf l) v → v.top.values ≡ w.I32 k ∷ u.top.values → u ≡ with_values u.top.values v → k ≢ 0 → Branches l u e x → Stepped s v e s x
 stepped_if s v u x l k e h t q ne b = record {
   makes = back s v u x (fetched_instr s v) e s q (branch_makes s u (fetched_instr s v) v.top.values l e x (br_if_breaks s (state_of u) (fetched_instr s v) l k v.top.values u.top.values h.sort_is t ne) (br_if_can s v u l k h t q) (linked_there s v u q h.fits.typed.linked) b);
+  grew = none_by s v (fetched_instr s v) (sort.BrIf l) e h.sort_is (branch_none l u e x b) refl;
   fits = λ R f. branch_leaves s (others s v) v u x l e f (br_if_target s (fetched_instr s v) (rest_of (module_for s v) v) v u l k f h.sort_is t) (popped_live s (others s v) v u k f t) q b;
 }
 
@@ -136,6 +141,7 @@ stepped_table s v u x l k j e h t q c b0 =
     let can : CanBranch n u = subst (λ y. CanBranch y u) z (table_can s v u l k j h t q c) in
     record {
       makes = back s v u x (fetched_instr s v) e s q (branch_makes s u (fetched_instr s v) v.top.values n e x (table_breaks s (state_of u) (fetched_instr s v) l k v.top.values u.top.values h.sort_is t) can (linked_there s v u q h.fits.typed.linked) b);
+      grew = none_by s v (fetched_instr s v) (sort.BrTable l) e h.sort_is (branch_none n u e x b) refl;
       fits = λ R f. branch_leaves s (others s v) v u x n e f (br_table_target s (fetched_instr s v) (rest_of (module_for s v) v) v u l k k f h.sort_is t) (popped_live s (others s v) v u k f t) q b;
     }
 
@@ -147,6 +153,7 @@ return_can s v h = can_return s (fetched_instr s v) (rest_of (module_for s v) v)
 pub stepped_return : (s : Store) (v : View) (values : Vec Value Global) → At s sort.Return v → reverse values.items ≡ take v.results v.top.values → Stepped s v (Returned values) s v
 stepped_return s v values h e = record {
   makes = (refl, λ F. before_returns s (module_for s v) v (fetched_instr s v) v.top.values values.items (ap (λ k. act_by s (state_of v) (fetched_instr s v) k v.top.values) h.sort_is) (return_can s v h) e F);
+  grew = none_by s v (fetched_instr s v) sort.Return (Returned values) h.sort_is refl refl;
   fits = λ R f. zip_results s R values.items (return_results s (fetched_instr s v) (rest_of (module_for s v) v) v values.items f h.sort_is e);
 }
 
@@ -163,6 +170,7 @@ stepped_block s v x n h o b =
     ap (λ k. act_by s F instr k v.top.values) h.sort_is ∙ ap (λ y. nested s F instr n y v.top.values) o in
     record {
       makes = begins_makes s v x instr v.top.values n.again n.ty n.body (module_here s (others s v) v h.fits) (begin_can s v n h o) (loop_is instr n h.sort_is) a b;
+      grew = none_by s v (fetched_instr s v) (sort.Nested n) Went h.sort_is refl refl;
       fits = λ R f. begins_fits s instr v x n f h.sort_is o h.placed b;
     }
 
@@ -208,6 +216,7 @@ stepped_if_block s v u x n other id k h o t q c part b =
     let b' : Begins (module_for s v) n.again n.ty id u x = subst (λ (y : Module). Begins y n.again n.ty id u x) (sym same) b in
     record {
       makes = back s v u x instr Went s q (begins_makes s u x instr v.top.values n.again n.ty id m (if_can s v u n other k h o t q) (λ a. absurd (nesting_other instr n other h.sort_is o a)) (if_act s (state_of u) instr n other id k v.top.values u.top.values h.sort_is o t c) b);
+      grew = none_by s v (fetched_instr s v) (sort.Nested n) Went h.sort_is refl refl;
       fits = λ R f. begins_if_fits s instr v u x n other id k f h.sort_is o h.placed t q part b';
     }
 
@@ -255,6 +264,7 @@ stepped_call s v x index a args h e c =
     let act_is : act s (state_of v) instr v.top.values ≡ call s (state_of v) a v.top.values = ap (λ k. act_by s (state_of v) instr k v.top.values) h.sort_is ∙ ap (λ o. call_index s (state_of v) o v.top.values) e in
     record {
       makes = (refl, call_makes s v instr v.top.values a args.items x act_is (call_can s v index a h e) c);
+      grew = none_by s v (fetched_instr s v) (sort.Call index) (Call a args) h.sort_is refl refl;
       fits = λ R f. call_leaves s v x index a args f h.sort_is e c;
     }
 
@@ -279,6 +289,9 @@ end_makes {R} s v x (Returned values) f r b =
 end_makes s v x (Call func args) f r b = absurd b
 end_makes s v x (Trapped cause) f r b = absurd b
 end_makes s v x (Grew memory) f r b = absurd b
+
+pub end_grew : (s : Store) (v x : View) (e : Effect) → rest_of (module_for s v) v ≡ [] → Ends v e x → (F : FrameState) → grown_in e ≡ growth_of s F (term_of s v)
+end_grew s v x e r b F = growth_ended s F (module_for s v) v e r (end_none v e x b)
 
 pub end_leaves : {R : List ValType} → (s : Store) (v x : View) (e : Effect) → Fits s R v → rest_of (module_for s v) v ≡ [] → Ends v e x → LeavesFit R e s x
 end_leaves s v x Went f r b = left_fits s v x f r b.0 b.1

@@ -7,9 +7,11 @@ use Rattle.wasm_syntax.specs.declared.types.ValType.{ValType}
 use Rattle.wasm_syntax.specs.declared.sorts.Sort.{Sort}
 use Rattle.wasm_syntax.specs.declared.sorts.Sort.TheVariants as sort
 use Rattle.wasm_syntax.specs.declared.trap.Trap.TheVariants as because
-use Rattle.wasm_store.specs.Store.{Store}
+use Rattle.wasm_store.specs.Store.{Store, instance_at}
 use Rattle.wasm_machine.specs.declared.frame.Effect.{Effect}
 use Rattle.wasm_machine.specs.declared.frame.Effect.TheVariants.{Trapped}
+use Rattle.wasm_machine.specs.Terms.{FrameState}
+use Rattle.wasm_machine.specs.Growth.{grown_in, growth_by, growth_of}
 use Rattle.wasm_machine.specs.Reduction.{act_by}
 use Rattle.wasm_machine.specs.View.{View, rest_of, state_of, module_for, last_instr, advanced, set_back, term_of}
 use Rattle.wasm_machine.specs.Control.{IsBehind}
@@ -17,6 +19,7 @@ use Rattle.wasm_machine.specs.Fits.{FitsAt, Fits}
 use Rattle.wasm_machine.specs.Steps.{Makes, term_before}
 use Rattle.wasm_machine.specs.Stepping.{fetched_instr, FitsBut, At, Stepped}
 use Rattle.wasm_machine.proofs.Terms.{before_traps, before_is}
+use Rattle.wasm_machine.proofs.Growing.{none_by, growth_begun}
 use Rattle.wasm_machine.proofs.Kept.{fetched}
 
 -- What was fetched. The frame v has gone on to u.
@@ -67,12 +70,18 @@ module _ (s : Store) (v u : View) (k : Sort) (h : Fetched s v u k) where
       let c : term_before (module_for s v) (fetched_instr s u) (advanced v) ≡ term_before (module_for s u) (fetched_instr s u) u = ap (λ z. term_before (module_for s v) (fetched_instr s u) z) (sym h.advanced_is) ∙ ap (λ n. term_before n (fetched_instr s u) u) (sym code_same) in
       subst (λ t. Makes s t e r x) (sym (b ∙ c)) m
 
+  pub step_grew : (e : Effect) → grown_in e ≡ growth_by s (instance_at s u.instance) (sort_of (fetched_instr s u)) u.top.values → (F : FrameState) → grown_in e ≡ growth_of s F (term_of s v)
+  step_grew e g F =
+      growth_begun s F (module_for s v) v (fetched_instr s u) (rest_of (module_for s u) u) (grown_in e) rest_here
+      (g ∙ ap (λ (x : View). growth_by s (instance_at s x.instance) (sort_of (fetched_instr s u)) x.top.values) h.advanced_is)
+
 -- an instruction of another name for its sort
 pub at_sort : (s : Store) (k j : Sort) (v : View) → k ≡ j → At s k v → At s j v
 at_sort s k j v e h = subst (λ x. At s x v) e h
 
 pub stepped_unreachable : (s : Store) (v : View) → At s sort.Unreachable v → Stepped s v (Trapped because.Unreachable) s v
 stepped_unreachable s v h = record {
+  grew = none_by s v (fetched_instr s v) sort.Unreachable (Trapped because.Unreachable) h.sort_is refl refl;
   makes = (refl, λ F. before_traps s (module_for s v) v (fetched_instr s v) v.locals v.top.values because.Unreachable (ap (λ x. act_by s (state_of v) (fetched_instr s v) x v.top.values) h.sort_is) F);
   fits = λ R f. tt;
 }

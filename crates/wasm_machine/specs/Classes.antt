@@ -12,6 +12,8 @@ use Rattle.wasm_syntax.specs.Sorts.{sort_of}
 use Rattle.wasm_store.specs.declared.instances.Instance.{Instance}
 use Rattle.wasm_syntax.specs.declared.addresses.GlobalAddr.{GlobalAddr}
 use Rattle.wasm_syntax.specs.declared.addresses.TableAddr.{TableAddr}
+use Rattle.wasm_syntax.specs.declared.addresses.MemAddr.{MemAddr}
+use Rattle.wasm_syntax.specs.declared.addresses.DataAddr.{DataAddr}
 use Rattle.wasm_store.specs.Store.{Store, instance_at, global_at}
 use Rattle.wasm_store.specs.Whole.{value_type, HasType, IsLater}
 use Rattle.wasm_machine.specs.Performing.{Performed, traps, perform, perform_drop, perform_select, perform_is_null}
@@ -119,6 +121,12 @@ IsSecondTyped s _ t = ⊥
 
 abbrev pub IsLiveTable : Store → TableAddr → Type 0
 IsLiveTable s a = a.0 < length s.tables
+
+abbrev pub IsLiveMemory : Store → MemAddr → Type 0
+IsLiveMemory s a = a.0 < length s.memories
+
+abbrev pub IsLiveData : Store → DataAddr → Type 0
+IsLiveData s d = d.0 < length s.datas
 
 -- the store is as it was, or later
 abbrev pub IsKept : Store → Store → Type 0

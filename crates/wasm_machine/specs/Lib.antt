@@ -2,6 +2,7 @@ pub mod Performing
 pub mod Terms
 pub mod Reduction
 pub mod Charges
+pub mod Growth
 pub mod View
 pub mod Fits
 pub mod Control

@@ -5,9 +5,10 @@ use Rattle.wasm_syntax.specs.Sorts.{sort_of}
 use Rattle.wasm_syntax.specs.declared.types.ValType.{ValType}
 use Rattle.wasm_syntax.specs.declared.sorts.Sort.{Sort}
 use Rattle.wasm_syntax.specs.declared.instructions.Instr.{Instr}
-use Rattle.wasm_store.specs.Store.{Store}
+use Rattle.wasm_store.specs.Store.{Store, instance_at}
 use Rattle.wasm_machine.specs.declared.frame.Effect.{Effect}
 use Rattle.wasm_machine.specs.View.{View, module_for, rest_of, last_instr}
+use Rattle.wasm_machine.specs.Growth.{grown_in, growth_by}
 use Rattle.wasm_machine.specs.Control.{IsBehind}
 use Rattle.wasm_machine.specs.Fits.{FitsAt}
 use Rattle.wasm_machine.specs.Steps.{Makes, LeavesFit, term_before}
@@ -31,4 +32,5 @@ pub record At (s : Store) (k : Sort) (v : View) : Type 0 where
 -- it is carried out
 pub record Stepped (s : Store) (old : View) (e : Effect) (r : Store) (new : View) : Type 0 where
   pub makes : Makes s (term_before (module_for s old) (fetched_instr s old) old) e r new
+  pub grew : grown_in e ≡ growth_by s (instance_at s old.instance) (sort_of (fetched_instr s old)) old.top.values
   pub fits : (R : List ValType) → FitsBut s R old → LeavesFit R e r new

@@ -25,14 +25,14 @@ EndsIn s F t vs = (reduce s F t ≡ gives vs []) ⊎ ((u : Term) × (reduce s F 
 abbrev pub TrapsIn : Store → FrameState → Term → Trap → Type 0
 TrapsIn s F t cause = (u : Term) × (reduce s F t ≡ rewrites s F u) × (charge_of u ≡ 0) × (reduce s F u ≡ rewrites s F (trap cause))
 
--- What a step in the store s makes of a term t: with every effect but `Went` the redex, values or trap that it names is then at work. F
--- is the state of the frame round it, if any. No memory grows yet.
+-- What a step in the store s makes of a term t: with every effect but `Went` and `Grew` the redex, values or trap that it names is then
+-- at work. F is the state of the frame round it, if any.
 abbrev pub Makes : Store → Term → Effect → Store → View → Type 0
 Makes s t Went r new = (F : FrameState) → reduce s F t ≡ rewrites r F (term_of r new)
 Makes s t (Call func args) r new = (r ≡ s) × ((F : FrameState) → reduce s F t ≡ rewrites s F (term_round (module_for s new) new (invoke func args.items)))
 Makes s t (Returned values) r new = (r ≡ s) × ((F : FrameState) → EndsIn s F t (reverse values.items))
 Makes s t (Trapped cause) r new = (r ≡ s) × ((F : FrameState) → TrapsIn s F t cause)
-Makes s t (Grew memory) r new = ⊥
+Makes s t (Grew memory) r new = (F : FrameState) → reduce s F t ≡ rewrites r F (term_of r new)
 
 -- What it leaves of a frame that gives values of the types R: the frame fits the store as it is then, or waits for the results of a live
 -- function that it calls with arguments of its types, or has ended with values of the types R.

@@ -94,7 +94,7 @@ impl WasmFrame {
                 Ok(WasmFrame::begun(
                     *instance,
                     address,
-                    ty.results.len(),
+                    ty.get().results.len(),
                     room,
                     words,
                     outer,

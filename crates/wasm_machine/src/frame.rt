@@ -36,7 +36,7 @@ pub enum Effect {
     Returned(Vec<Value>),
     /// The frame has ended in a trap.
     Trapped(Trap),
-    /// The frame goes on, and a memory has grown.
+    /// The frame goes on, and a `memory.grow` of this memory, of no page too, hasn't given -1.
     Grew { memory: MemAddr },
 }
 

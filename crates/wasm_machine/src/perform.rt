@@ -1,6 +1,6 @@
 //! Simple instructions (WebAssembly Core 2.0, sections 4.4.1 to 4.4.7), one function for each class.
 
-ghost use Rattle.std.specs.Prelude.{◌≡◌, IfOk, OnErr};
+ghost use Rattle.std.specs.Prelude.{◌≡◌, ◌≢◌, IfOk, OnErr};
 ghost use Rattle.wasm_machine.specs.Classes.{CanPerform, Ends, IsKept};
 
 use crate::frame::WasmFrame;
@@ -9,6 +9,7 @@ use wasm_store::Store;
 use wasm_syntax::{Simple, Trap};
 
 mod globals;
+mod memories;
 mod numbers;
 mod operands;
 mod steps;
@@ -16,8 +17,7 @@ mod tables;
 mod variables;
 
 impl WasmFrame {
-    /// A simple instruction, or the trap in which it ends. Only `table.grow` takes memory. The instructions on memories and data
-    /// segments aren't carried out yet: they are answered as want of memory.
+    /// A simple instruction other than `memory.grow`, or the trap in which it ends. Only `table.grow` takes memory.
     #[inline]
     pub(crate) fn simple(
         &mut self,
@@ -25,7 +25,8 @@ impl WasmFrame {
         store: &mut Store,
         instr: Simple,
     ) -> Result<Result<(), Trap>, AllocError>
-        requires { CanPerform store.old instr self.old }
+        requires can { CanPerform store.old instr self.old }
+        requires other { instr ≢ Simple.MemoryGrow }
         ensures ends { IfOk result (λ r. Ends store.old instr self.old r store.new self.new) }
         ensures kept { IsKept store.old store.new }
         ensures refused { OnErr result (store.new ≡ store.old) }
@@ -99,14 +100,25 @@ impl WasmFrame {
                 self.ref_func(store, x);
                 Ok(Ok(()))
             }
-            Simple::Load { .. } => Err(AllocError),
-            Simple::Store { .. } => Err(AllocError),
-            Simple::MemorySize => Err(AllocError),
-            Simple::MemoryGrow => Err(AllocError),
-            Simple::MemoryInit(_) => Err(AllocError),
-            Simple::DataDrop(_) => Err(AllocError),
-            Simple::MemoryCopy => Err(AllocError),
-            Simple::MemoryFill => Err(AllocError),
+            Simple::Load {
+                ty,
+                width,
+                extension,
+                at,
+            } => Ok(self.memory_load(store, ty, width, extension, at)),
+            Simple::Store { ty, width, at } => Ok(self.memory_store(store, ty, width, at)),
+            Simple::MemorySize => {
+                self.memory_size(store);
+                Ok(Ok(()))
+            }
+            Simple::MemoryGrow => unreachable!(),
+            Simple::MemoryInit(x) => Ok(self.memory_init(store, x)),
+            Simple::DataDrop(x) => {
+                self.data_drop(store, x);
+                Ok(Ok(()))
+            }
+            Simple::MemoryCopy => Ok(self.memory_copy(store)),
+            Simple::MemoryFill => Ok(self.memory_fill(store)),
         }
     }
 }

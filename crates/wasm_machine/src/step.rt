@@ -5,6 +5,8 @@ ghost use Rattle.std.specs.Prelude.{List, []};
 ghost use Rattle.wasm_syntax.specs.declared.types.ValType.{ValType};
 ghost use Rattle.wasm_machine.specs.View.{rest_of, module_for, term_of};
 ghost use Rattle.wasm_machine.specs.Fits.{Fits};
+ghost use Rattle.wasm_machine.specs.Terms.{FrameState};
+ghost use Rattle.wasm_machine.specs.Growth.{grown_in, growth_of};
 ghost use Rattle.wasm_machine.specs.Steps.{Makes, LeavesFit};
 ghost use Rattle.wasm_machine.specs.Stepping.{At, Stepped};
 ghost use Rattle.wasm_store.specs.Whole.{IsLater};
@@ -113,6 +115,7 @@ impl WasmFrame {
         requires fits { (R : List ValType) × Fits store.now R self.old }
         requires ended { rest_of (module_for store.now self.old) self.old ≡ [] }
         ensures makes { IfOk result (λ e. Makes store.now (term_of store.now self.old) e store.now self.new) }
+        ensures grew { IfOk result (λ e. (F : FrameState) → grown_in e ≡ growth_of store.now F (term_of store.now self.old)) }
         ensures fits { IfOk result (λ e. (R : List ValType) → Fits store.now R self.old → LeavesFit R e store.now self.new) }
         ensures refused { OnErr result (self.new ≡ self.old) }
     {
@@ -186,12 +189,14 @@ impl WasmFrame {
         }
     }
 
-    /// One step. It makes one rewriting of the frame's term, of which at most one is charged, and with each effect but `Went` the call,
-    /// the values or the trap that it names is then at work. The error comes only where memory is wanting for the values of a call or
-    /// a return, or for the growth of a table: frame and store are then as before.
+    /// One step. It makes one rewriting of the frame's term, of which at most one is charged, and with each effect but `Went` and `Grew`
+    /// the call, the values or the trap that it names is then at work. `Grew` comes exactly at a `memory.grow` that doesn't give -1. The
+    /// error comes only where memory is wanting for the values of a call or a return, or for the growth of a table or a memory: frame
+    /// and store are then as before.
     pub fn step(&mut self, alloc: Global, store: &mut Store) -> Result<Effect, AllocError>
         requires { (R : List ValType) × Fits store.old R self.old }
         ensures makes { IfOk result (λ e. Makes store.old (term_of store.old self.old) e store.new self.new) }
+        ensures grew { IfOk result (λ e. (F : FrameState) → grown_in e ≡ growth_of store.old F (term_of store.old self.old)) }
         ensures fits { IfOk result (λ e. (R : List ValType) → Fits store.old R self.old → LeavesFit R e store.new self.new) }
         ensures later { IsLater store.old store.new }
         ensures refused { OnErr result ((store.new ≡ store.old) × (self.new ≡ self.old)) }

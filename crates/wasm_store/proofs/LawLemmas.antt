@@ -1,6 +1,6 @@
 -- The laws of stores.
 use Rattle.std.proofs.Common.{◌≡◌, ◌≤◌, List, length, ap, ◌∙◌, subst, inl, inr, arith}
-use Rattle.std.specs.Prelude.{slice_index_or}
+use Rattle.std.specs.Prelude.{[], slice_index_or}
 use Rattle.wasm_valid.specs.Spaces.{funcs_of, tables_of, mems_of, globals_of}
 use Rattle.wasm_store.specs.declared.instances.Instance.{Instance}
 use Rattle.wasm_store.specs.declared.instances.GlobalInst.{GlobalInst}
@@ -8,7 +8,7 @@ use Rattle.wasm_store.specs.Memories.{no_memory}
 use Rattle.wasm_store.specs.Store as st
 use Rattle.wasm_store.specs.Store.{Store, TableInst, MemInst, module_at, instance_at}
 use Rattle.wasm_store.specs.Whole.{Extends, Stays, InstanceStays, TableStays, MemoryStays, GlobalStays, SegmentStays, IsBlank, HasFunction, HasTable, HasMemory, HasGlobal, HasElement, HasData}
-use Rattle.wasm_store.specs.Laws.{LaterStays, ValuesStayTyped, ModulesStay, FunctionsStay, TablesStay, MemoriesStay, GlobalsStay, InstancesStay, ListsStay, FunctionOfIndex, TableOfIndex, GlobalOfIndex, ElementOfIndex, MemoryOfIndex, DataOfIndex}
+use Rattle.wasm_store.specs.Laws.{LaterStays, ValuesStayTyped, ModulesStay, FunctionsStay, TablesStay, MemoriesStay, GlobalsStay, ElementsStay, DatasStay, InstancesStay, ListsStay, FunctionOfIndex, TableOfIndex, GlobalOfIndex, ElementOfIndex, MemoryOfIndex, DataOfIndex}
 use Rattle.wasm_store.proofs.Keeps.{typed_later, lists_later}
 use Rattle.wasm_store.proofs.Zips.{zip_at}
 
@@ -79,6 +79,12 @@ memories_stay s t a l h = (let more : length s.memories ≤ length t.memories = 
 
 pub globals_stay : GlobalsStay
 globals_stay s t a l h = (let more : length s.globals ≤ length t.globals = l.globals.count in omega arith, l.globals.each a.0 st.no_global h)
+
+pub elements_stay : ElementsStay
+elements_stay s t a l h = (let more : length s.elements ≤ length t.elements = l.elements.count in omega arith, l.elements.each a.0 [] h)
+
+pub datas_stay : DatasStay
+datas_stay s t a l h = (let more : length s.datas ≤ length t.datas = l.datas.count in omega arith, l.datas.each a.0 [] h)
 
 module_stays : (i j : Instance) → InstanceStays i j → j.module ≡ i.module
 module_stays i j (inl h) = h.1

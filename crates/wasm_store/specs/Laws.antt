@@ -17,9 +17,9 @@ use Rattle.wasm_syntax.specs.declared.addresses.ElemAddr.{ElemAddr}
 use Rattle.wasm_syntax.specs.declared.addresses.DataAddr.{DataAddr}
 use Rattle.wasm_valid.specs.Spaces.{funcs_of, tables_of, mems_of, globals_of}
 use Rattle.wasm_store.specs.declared.instances.Instance.{Instance}
-use Rattle.wasm_store.specs.Store.{Store, module_at, instance_at, function_at, table_at, global_at}
-use Rattle.wasm_store.specs.Memories.{memory_at}
-use Rattle.wasm_store.specs.Whole.{IsLater, HasType, HasLists, IsBlank, HasFunction, HasTable, HasMemory, HasGlobal, HasElement, HasData, GlobalStays, TableStays, MemoryStays}
+use Rattle.wasm_store.specs.Store.{Store, module_at, instance_at, function_at, table_at, global_at, element_at}
+use Rattle.wasm_store.specs.Memories.{memory_at, data_at}
+use Rattle.wasm_store.specs.Whole.{IsLater, HasType, HasLists, IsBlank, HasFunction, HasTable, HasMemory, HasGlobal, HasElement, HasData, GlobalStays, TableStays, MemoryStays, SegmentStays}
 
 -- What is later is an order.
 
@@ -51,6 +51,13 @@ MemoriesStay = (s t : Store) (a : MemAddr) → IsLater s t → a.0 < length s.me
 -- its type is the same, and its value too where it is not mutable
 abbrev pub GlobalsStay : Type 0
 GlobalsStay = (s t : Store) (a : GlobalAddr) → IsLater s t → a.0 < length s.globals → (a.0 < length t.globals) × GlobalStays (global_at s a) (global_at t a)
+
+-- a segment is the same, or was dropped and is empty
+abbrev pub ElementsStay : Type 0
+ElementsStay = (s t : Store) (a : ElemAddr) → IsLater s t → a.0 < length s.elements → (a.0 < length t.elements) × SegmentStays (element_at s a) (element_at t a)
+
+abbrev pub DatasStay : Type 0
+DatasStay = (s t : Store) (a : DataAddr) → IsLater s t → a.0 < length s.datas → (a.0 < length t.datas) × SegmentStays (data_at s a) (data_at t a)
 
 -- Instances.
 

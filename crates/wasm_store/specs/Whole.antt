@@ -114,6 +114,10 @@ HasCode s (f.Wasm ty i x) = IsBlank (instance_at s i) → ⊥
 HasCode s (f.Host ty callee) = ⊥
 HasCode s (f.Suspending ty callee) = ⊥
 
+-- each function is one of a module whose instance has its lists
+abbrev pub AllHaveCode : Store → Type 0
+AllHaveCode s = All (HasCode s) s.functions
+
 abbrev pub IsInstance : Store → Instance → Type 0
 IsInstance s i = (i.module.0 < length s.modules) × (IsBlank i ⊎ HasLists s i)
 
@@ -181,3 +185,9 @@ pub record IsLater (old new : Store) : Type 0 where
   pub globals : Extends GlobalStays old.globals new.globals
   pub elements : Extends SegmentStays old.elements new.elements
   pub datas : Extends SegmentStays old.datas new.datas
+
+-- modules, instances and functions are as they were
+pub record HasSameCode (old new : Store) : Type 0 where
+  pub modules : new.modules ≡ old.modules
+  pub instances : new.instances ≡ old.instances
+  pub functions : new.functions ≡ old.functions

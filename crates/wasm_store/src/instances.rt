@@ -3,6 +3,7 @@
 ghost use Rattle.std.specs.Prelude.{◌≡◌};
 ghost use Rattle.wasm_store.specs.Store.{blank, type_of};
 
+use crate::shared_type::SharedType;
 use sqlite_items::Items;
 use std::alloc::Global;
 use wasm_syntax::{
@@ -15,18 +16,18 @@ use wasm_syntax::{
 pub enum FuncInst {
     /// The function of a module's own with this index, counted without the imported ones.
     Wasm {
-        ty: FuncType,
+        ty: SharedType,
         instance: InstAddr,
         index: u32,
     },
     /// A function of the host.
     Host {
-        ty: FuncType,
+        ty: SharedType,
         callee: u64,
     },
     /// A function of the host that may suspend its caller.
     Suspending {
-        ty: FuncType,
+        ty: SharedType,
         callee: u64,
     },
 }
@@ -37,9 +38,9 @@ impl FuncInst {
         ensures { result.now ≡ type_of self.now }
     {
         match self {
-            FuncInst::Wasm { ty, .. } => ty,
-            FuncInst::Host { ty, .. } => ty,
-            FuncInst::Suspending { ty, .. } => ty,
+            FuncInst::Wasm { ty, .. } => ty.get(),
+            FuncInst::Host { ty, .. } => ty.get(),
+            FuncInst::Suspending { ty, .. } => ty.get(),
         }
     }
 }

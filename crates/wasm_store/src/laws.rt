@@ -1,6 +1,6 @@
 //! Laws of stores, as contracts of functions that do nothing.
 
-ghost use Rattle.wasm_store.specs.Laws.{NothingChanges, LaterStays, ValuesStayTyped, ModulesStay, FunctionsStay, TablesStay, MemoriesStay, GlobalsStay};
+ghost use Rattle.wasm_store.specs.Laws.{NothingChanges, LaterStays, ValuesStayTyped, ModulesStay, FunctionsStay, TablesStay, MemoriesStay, GlobalsStay, ElementsStay, DatasStay};
 ghost use Rattle.wasm_store.specs.Allocated.{ModulesAreAllocated};
 ghost use Rattle.wasm_store.specs.Laws.{InstancesStay, ListsStay, FunctionOfIndex, TableOfIndex, GlobalOfIndex, ElementOfIndex, MemoryOfIndex, DataOfIndex};
 
@@ -18,6 +18,12 @@ pub fn types_stay()
     ensures tables { TablesStay }
     ensures memories { MemoriesStay }
     ensures globals { GlobalsStay }
+{}
+
+/// A live segment stays live. It keeps what it has until it is dropped, and is empty from then on.
+pub fn segments_stay()
+    ensures elements { ElementsStay }
+    ensures datas { DatasStay }
 {}
 
 /// The lists of an instance stay once they are set.

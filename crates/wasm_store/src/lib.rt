@@ -5,10 +5,12 @@
 mod instances;
 pub mod laws;
 mod memory;
+mod shared_type;
 mod store;
 mod table;
 
 pub use instances::{FuncInst, GlobalInst, Instance};
 pub use memory::{MOST_PAGES, MOST_PAGES_IN_ALL};
+pub use shared_type::SharedType;
 pub use store::{OutOfTable, Store};
 pub use table::MOST_ENTRIES;

@@ -11,8 +11,9 @@ use crate::frame::WasmFrame;
 use wasm_num::{binary, compare, convert, is_zero, unary};
 use wasm_syntax::{BinOp, CmpOp, ConvOp, Num, NumType, Simple, Trap, UnOp, Value};
 
+/// A number as a value.
 #[inline]
-fn value_of(number: Num) -> Value
+pub(crate) fn value_of(number: Num) -> Value
     ensures { result ≡ number_value number }
 {
     match number {
@@ -43,7 +44,7 @@ fn source(op: ConvOp) -> NumType
 impl WasmFrame {
     /// The topmost operand, a number of this type.
     #[inline]
-    fn pop_num(&mut self, ty: NumType) -> Num
+    pub(crate) fn pop_num(&mut self, ty: NumType) -> Num
         requires { IsTops (value_type ty ∷ []) (values_of self.old) }
         ensures value { values_of self.old ≡ number_value result ∷ values_of self.new }
         ensures typed { type_of_number result ≡ ty }

@@ -1,8 +1,7 @@
 -- The run is at these frames, or at this end.
 use Rattle.wasm_store.specs.Store.{type_of, function_at}
-use Rattle.wasm_store.specs.Whole.{IsLater}
+use Rattle.wasm_store.specs.Whole.{IsLater, HasSameCode}
 use Rattle.wasm_calls.specs.Calls.{call_of, most_rewritings}
-use Rattle.wasm_calls.specs.Answers.{HasSameCode}
 use Rattle.wasm_calls.specs.Activations.{Reaches, place_of, Lasts}
 use Rattle.wasm_calls.proofs.activations.invoke.Given as goal
 

@@ -28,7 +28,7 @@ returns-clause-added c =
     let s : Store = c.args.store.now in
     let fs : List FuncInst = functions_of (module_at s c.args.a) c.args.i 0 (module_at s c.args.a).funcs in
     let all : length fs ≡ length (module_at s c.args.a).funcs = length_functions (module_at s c.args.a) c.args.i 0 (module_at s c.args.a).funcs in
-    let count : c.len-count.result ≡ length (module_at s c.args.a).funcs = c.len-count.ensures ∙ ap (λ m. length m.funcs) (c.module-2.ensures.value ∙ c.module.ensures) in
+    let count : c.len-count.result ≡ length (module_at s c.args.a).funcs = c.len-count.ensures ∙ ap (λ m. length m.funcs) (c.module-4.ensures.value ∙ c.module-3.ensures) in
     let past : c.len-count.result ≤ c.loop-k.k = c.loop-k-test.false in
     let end : c.loop-k.k ≤ c.len-count.result = c.loop-k.auto.k-end in
     functions_all s c.loop-k.store fs c.loop-k.k (omega (arith, all, count, past)) (omega (arith, all, count, end)) c.loop-k.invariant.added

@@ -31,6 +31,9 @@ add_globals-requires-clause-typed c =
 pub returns-in_err-add_globals-clause-later : goal.returns-in_err-add_globals-clause-later
 returns-in_err-add_globals-clause-later c = (c.order.ensures.through c.args.store.now c.add_memories.new.store c.add_globals.new.store (c.order.ensures.through c.args.store.now c.add_tables.new.store c.add_memories.new.store (c.order.ensures.through c.args.store.now c.add_functions.new.store c.add_tables.new.store (c.order.ensures.through c.args.store.now c.alloc_instance.new.self c.add_functions.new.store c.in_ok-instance.ensures.later c.in_ok-add_functions.ensures.later) c.in_ok-add_tables.ensures.later) c.in_ok-add_memories.ensures.later) c.in_err-add_globals.ensures.later)
 
+pub returns-in_err-add_memories-clause-later : goal.returns-in_err-add_memories-clause-later
+returns-in_err-add_memories-clause-later c = (c.order.ensures.through c.args.store.now c.add_tables.new.store c.add_memories.new.store (c.order.ensures.through c.args.store.now c.add_functions.new.store c.add_tables.new.store (c.order.ensures.through c.args.store.now c.alloc_instance.new.self c.add_functions.new.store c.in_ok-instance.ensures.later c.in_ok-add_functions.ensures.later) c.in_ok-add_tables.ensures.later) c.in_err-add_memories.ensures.later)
+
 pub add_elements-requires-clause-refs : goal.add_elements-requires-clause-refs
 add_elements-requires-clause-refs c =
     let s : Store = c.args.store.now in
