@@ -1,0 +1,5 @@
+pub mod Tables
+pub mod Stacks
+pub mod Building
+pub mod Images
+pub mod Built

@@ -1,0 +1,13 @@
+//! A script's tree from its tokens.
+#![tactic(auto)]
+
+mod again;
+mod binding;
+mod environment;
+mod parsing;
+mod resolve;
+mod script;
+
+pub use binding::{Binding, Slot};
+pub use parsing::{ParseError, parse};
+pub use script::Script;
