@@ -15,15 +15,6 @@ pub const MOST_BUDGET: u64 = 1_000_000_000_000;
 /// The units of a budget that the command line doesn't name.
 pub const USUAL_BUDGET: u64 = 10_000_000;
 
-/// The pages of one memory.
-pub const MOST_PAGES: u32 = 1_024;
-
-/// The pages of all memories.
-pub const MOST_PAGES_OF_ALL: u32 = 4_096;
-
-/// The entries of one table.
-pub const MOST_ENTRIES: u32 = 1_000_000;
-
 /// The elements of an Array.
 pub const MOST_ELEMENTS: u32 = 1_000_000;
 
@@ -38,12 +29,6 @@ pub const MOST_ACTIVATIONS: u32 = 10_000;
 
 /// The constructs of a script that are open at once.
 pub const MOST_OPEN: usize = 256;
-
-/// The blocks of a function that are nested, the body not counted.
-pub const MOST_BLOCKS: u32 = 256;
-
-/// The locals of a function with its parameters.
-pub const MOST_LOCALS: u32 = 50_000;
 
 /// The greatest whole number that a Number may be; its negative is the least one.
 pub const GREATEST_NUMBER: u64 = 9_007_199_254_740_991;

@@ -34,7 +34,7 @@ impl From<AllocError> for Failure {
 }
 
 impl Lexeme {
-    // An element that makes a token.
+    /// An element of `len` characters that makes a token.
     pub fn token(len: usize, kind: TokenKind) -> Lexeme
         ensures len { result.len ≡ len }
         ensures kind { result.kind ≡ Some kind }
@@ -47,7 +47,7 @@ impl Lexeme {
         }
     }
 
-    // An element that makes no token.
+    /// A blank, a line end or a comment of `len` characters; `line_end` tells whether a line ends in it.
     pub fn blank(len: usize, line_end: bool) -> Lexeme
         ensures len { result.len ≡ len }
         ensures kind { result.kind ≡ None }

@@ -27,7 +27,7 @@ fn short_mark(c: char) -> Option<Mark>
     }
 }
 
-// The longest mark that begins with a character, before two more; `\0` stands for none.
+/// The longest mark that begins with a character, before two more; `\0` stands for none.
 pub fn mark_of(first: char, second: char, third: char) -> Option<Mark>
     ensures value { result ≡ steps.mark_front first second third }
     ensures spelt { IfSome result (λ m. steps.IsSpelt m first second third) }
@@ -51,7 +51,7 @@ pub fn mark_of(first: char, second: char, third: char) -> Option<Mark>
     }
 }
 
-// How many characters a mark has.
+/// How many characters a mark has.
 pub fn mark_len(mark: Mark) -> usize
     ensures { result ≡ length (mark_chars mark) }
 {

@@ -7,10 +7,11 @@ ghost use Rattle.wasm_machine.specs.Fits.{Fits};
 ghost use Rattle.wasm_machine.specs.Entering.{CanEnter};
 ghost use Rattle.wasm_store.specs.Store.{type_of, function_at};
 
-use crate::frame::{MOST_LABELS, WasmFrame};
+use crate::frame::WasmFrame;
 use std::alloc::{AllocError, Global};
 use wasm_store::{FuncInst, Store};
 use wasm_syntax::{FuncAddr, InstAddr, ValType, Value};
+use wasm_valid::MOST_LABELS;
 
 /// The value with which a local of this type begins (WebAssembly Core 2.0, section 4.2.1).
 fn default_value(ty: ValType) -> Value

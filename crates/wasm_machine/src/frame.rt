@@ -11,9 +11,6 @@ use wasm_syntax::{
     BlockId, BlockType, FuncAddr, InstAddr, Instr, MemAddr, ModuleAddr, Sort, Trap, Value,
 };
 
-/// No frame has more open labels: its body and the blocks that may be nested in it.
-pub const MOST_LABELS: usize = 257;
-
 /// An open label: where its operands begin among the frame's words, how many values a branch to it takes, the type of the loop that
 /// such a branch begins again, and the place of its next instruction.
 #[derive(Clone, Copy)]

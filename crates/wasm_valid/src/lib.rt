@@ -15,4 +15,5 @@ mod spaces;
 mod types;
 mod valid;
 
+pub use opens::MOST_LABELS;
 pub use valid::{Invalid, ValidModule, validate};

@@ -15,8 +15,8 @@ use wasm_syntax::{
     Mode, Module, TableType, ValType,
 };
 
-/// The pages that a memory may have.
-const MOST_PAGES: u32 = 65_536;
+/// The pages that 32 bits of address reach.
+const MOST_ADDRESSED_PAGES: u32 = 65_536;
 
 fn is_few(funcs: &[Func]) -> bool
     ensures { result ≡ is_vector funcs.now }
@@ -48,7 +48,9 @@ fn is_fine_table(table: TableType) -> bool
 fn is_fine_memory(limit: Limit) -> bool
     ensures { result ≡ is_memory limit }
 {
-    is_fine_limit(limit) && limit.min <= MOST_PAGES && limit.max.unwrap_or(0) <= MOST_PAGES
+    is_fine_limit(limit)
+        && limit.min <= MOST_ADDRESSED_PAGES
+        && limit.max.unwrap_or(0) <= MOST_ADDRESSED_PAGES
 }
 
 fn is_fine_import(module: &Module, desc: ImportDesc) -> bool
