@@ -37,6 +37,13 @@ impl<T> PlainList<T> {
         PlainList { items }
     }
 
+    /// The elements as a `Vec`, which aren't copied.
+    pub fn into_vec(self) -> Vec<T>
+        ensures { result.items ≡ self }
+    {
+        self.items
+    }
+
     /// The elements, lent.
     pub fn as_slice(&self) -> &[T]
         ensures { result.now ≡ self.now }

@@ -1,2 +1,3 @@
 mod Collected
+mod Elements
 mod LawLemmas

@@ -33,6 +33,15 @@ greatest_number = 9007199254740991
 abbrev pub most_elements : ℕ
 most_elements = 1000000
 
+-- values as the elements of an Array, the first of them at this index
+abbrev pub elements_from : ℕ → List HostValue → List (Key × HostValue)
+elements_from index [] = []
+elements_from index (v ∷ rest) = (keys.Index index, v) ∷ elements_from (index + 1) rest
+
+-- the elements of an Array of these values
+abbrev pub elements_of : List HostValue → List (Key × HostValue)
+elements_of vs = elements_from 0 vs
+
 -- whether a key is this name
 abbrev pub is_name : Key → List ℕ → Bool
 is_name (keys.Name text) name = bytes_eq text name

@@ -1,12 +1,12 @@
 //! The heap of scripts: objects with their properties, and global bindings.
-ghost use Rattle.std.specs.Prelude.{◌≡◌, ◌<◌, ◌↔◌, [], None, Some, IsTrue, length, replicate, slice_get, string_bytes, IfOk, OnOk, OnErr};
+ghost use Rattle.std.specs.Prelude.{◌≡◌, ◌<◌, ◌≤◌, ◌↔◌, [], None, Some, IsTrue, length, replicate, slice_get, string_bytes, IfOk, OnOk, OnErr};
 ghost use Rattle.std.specs.Option.{option_copied};
 ghost use Rattle.std.specs.Map.{keys_of};
 ghost use Rattle.host_values.specs.declared.kinds.Kind.TheVariants as kinds;
 ghost use Rattle.host_values.specs.declared.values.HostValue.TheVariants as values;
 ghost use Rattle.host_values.specs.Heaps.{HasDistinctKeys, IsLive, IsLiveValue, fresh_heap, is_callable, kind_at, next_object, object_at, properties_at, with_binding, with_object, with_property};
 ghost use Rattle.host_values.specs.KeyOrder.{ordered_keys};
-ghost use Rattle.host_values.specs.Members.{read_of, write_of, written};
+ghost use Rattle.host_values.specs.Members.{elements_of, most_elements, read_of, write_of, written};
 ghost use Rattle.host_values.specs.Shown.{shown_of};
 
 use crate::answers::{Got, Put};
@@ -59,6 +59,18 @@ fn collect(
     Ok(properties)
 }
 
+/// Values as the elements of an Array.
+fn elements(alloc: Global, items: Vec<HostValue>) -> Result<Vec<(Key, HostValue)>, AllocError>
+    requires { length items.items ≤ most_elements }
+    ensures { IfOk result (λ v. v.items ≡ elements_of items.items) }
+{
+    let mut elements = Vec::new(alloc);
+    for value in items {
+        elements.push((Key::Index(elements.len() as u32), value))?;
+    }
+    Ok(elements)
+}
+
 impl Heap {
     /// A heap whose only object, number 0, is the function `print`, with so many unset global bindings.
     pub fn new(alloc: Global, globals: u32) -> Result<Heap, AllocError>
@@ -104,6 +116,18 @@ impl Heap {
     {
         let properties = collect(alloc, pairs)?;
         self.add_stored(Stored::new(Kind::Exports, properties))
+    }
+
+    /// Makes an Array of these values in this order, at most 1,000,000.
+    pub fn add_array(&mut self, alloc: Global, items: Vec<HostValue>) -> Result<ObjId, AllocError>
+        requires { length items.items ≤ most_elements }
+        ensures fresh { IfOk result (λ o. o ≡ next_object self.old) }
+        ensures ok { OnOk result (self.new ≡ with_object self.old kinds.Array (elements_of items.items)) }
+        ensures err { OnErr result (self.new ≡ self.old) }
+    {
+        let elements = elements(alloc, items)?;
+        let properties = collect(alloc, elements)?;
+        self.add_stored(Stored::new(Kind::Array, properties))
     }
 
     // The object of a number, lent.
@@ -243,7 +267,7 @@ impl Heap {
     }
 
     /// The value of a global binding; none where it is unset.
-    pub fn binding(&self, n: u32) -> Option<&HostValue>
+    pub fn binding(&self, n: u64) -> Option<&HostValue>
         requires { n < length self.now.bindings }
         ensures { slice_get self.now.bindings n ≡ Some (option_copied result) }
     {
@@ -251,7 +275,7 @@ impl Heap {
     }
 
     /// Sets a global binding.
-    pub fn bind(&mut self, n: u32, value: HostValue)
+    pub fn bind(&mut self, n: u64, value: HostValue)
         requires { n < length self.old.bindings }
         ensures { self.new ≡ with_binding self.old n value }
     {

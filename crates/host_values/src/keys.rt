@@ -2,6 +2,7 @@
 ghost use Rattle.std.specs.Prelude.{◌≡◌, ◌≤◌, [], ◌∷◌, ◌++◌, IfOk, IfSome, OnOk};
 ghost use Rattle.std.specs.Cmp.{partial_equiv_from_equiv};
 ghost use Rattle.host_values.specs.KeyOrder.{ascending, greatest_index, index_after, index_of, indices_of, key_of, key_of_number, key_of_text, names_of, next_index, ordered_keys, text_of_key};
+ghost use Rattle.host_values.specs.Members.{is_name};
 ghost use Rattle.host_values.specs.SameKeys.{hashed_key, same_key, same_key_alike, same_key_equiv};
 
 use crate::values::HostValue;
@@ -99,6 +100,16 @@ impl Key {
                 Ok(Some(Key::of_text(text)))
             }
             _ => Ok(None),
+        }
+    }
+
+    /// Whether the key is this name. An index is none.
+    pub fn is_name(&self, name: &str) -> bool
+        ensures { result ≡ is_name self.now name.now }
+    {
+        match self {
+            Key::Index(_) => false,
+            Key::Name(text) => text.as_str() == name,
         }
     }
 

@@ -30,21 +30,11 @@ const INHERITED_NAMES: [&str; 12] = [
     "__lookupSetter__",
 ];
 
-/// Whether a key is this name.
-fn is_name(key: &Key, name: &str) -> bool
-    ensures { result ≡ spec.is_name key.now name.now }
-{
-    match key {
-        Key::Index(_) => false,
-        Key::Name(text) => text.as_str() == name,
-    }
-}
-
 /// Whether a key is one of these names.
 fn is_among(names: &[&str], key: &Key) -> bool
     ensures { result ≡ list_any (λ name. spec.is_name key.now name.now) names.now }
 {
-    names.iter().any(|name| is_name(key, name))
+    names.iter().any(|name| key.is_name(name))
 }
 
 /// Whether a key is a name that plain objects inherit.
@@ -96,7 +86,7 @@ fn of_length(length: u128) -> Got
 pub fn of_text(text: &SharedString, key: &Key) -> Got
     ensures { result ≡ spec.text_member text.now key.now }
 {
-    if is_name(key, "length") {
+    if key.is_name("length") {
         of_length(utf16_length(text.as_str().as_bytes()))
     } else {
         Got::Outside(OutsideKind::PrimitiveMember)
@@ -174,7 +164,7 @@ fn callee_length(callee: Callee) -> Got
 fn of_function(callee: Callee, key: &Key) -> Got
     ensures { result ≡ spec.function_member callee key.now }
 {
-    if is_name(key, "length") {
+    if key.is_name("length") {
         callee_length(callee)
     } else {
         Got::Outside(OutsideKind::FunctionMember)
@@ -190,10 +180,10 @@ fn of_error(
 ) -> Result<Got, AllocError>
     ensures { IfOk result (λ got. got ≡ spec.error_member class message.now key.now) }
 {
-    if is_name(key, "name") {
+    if key.is_name("name") {
         let name = SharedString::from_str(alloc, class.name())?;
         Ok(Got::Value(HostValue::Text(name)))
-    } else if is_name(key, "message") {
+    } else if key.is_name("message") {
         let message = message.clone()?;
         Ok(Got::Value(HostValue::Text(message)))
     } else {
@@ -205,7 +195,7 @@ fn of_error(
 fn of_promise(key: &Key) -> Got
     ensures { result ≡ spec.promise_member key.now }
 {
-    if is_name(key, "then") || is_name(key, "catch") {
+    if key.is_name("then") || key.is_name("catch") {
         Got::Outside(OutsideKind::BuiltinValue)
     } else {
         Got::Outside(OutsideKind::ObjectMember)
@@ -233,7 +223,7 @@ pub fn of_object(alloc: Global, object: &Stored, key: &Key) -> Result<Got, Alloc
 fn write_to_plain(key: &Key) -> Put
     ensures { result ≡ spec.plain_write key.now }
 {
-    if is_name(key, "__proto__") {
+    if key.is_name("__proto__") {
         Put::Outside(OutsideKind::Inherited)
     } else {
         Put::Done
