@@ -1,0 +1,4 @@
+pub mod Predefined
+pub mod Replies
+pub mod Calls
+pub mod Laws
