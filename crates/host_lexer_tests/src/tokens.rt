@@ -188,7 +188,7 @@ fn the_longest_mark_comes_first(rt: HostRuntime) -> Result<(), Fail> {
     all_are_read(&rt, rt.alloc(), &THE_LONGEST_MARK_COMES_FIRST)
 }
 
-static WHITE_SPACE_AND_COMMENTS_MAKE_NO_TOKEN: [(&str, &str); 22] = [
+static WHITE_SPACE_AND_COMMENTS_MAKE_NO_TOKEN: [(&str, &str); 26] = [
     ("", ""),
     (" \t\u{b}\u{c}\u{a0}\u{feff}a", "9-10 name a;"),
     ("\u{feff}a", "3-4 name a;"),
@@ -211,6 +211,10 @@ static WHITE_SPACE_AND_COMMENTS_MAKE_NO_TOKEN: [(&str, &str); 22] = [
     ("a /*", "bad 2"),
     ("/* * /", "bad 0"),
     ("// /*\na", "|6-7 name a;"),
+    ("\r", ""),
+    ("\u{85}a", "bad 0"),
+    ("\u{2003}a", "bad 0"),
+    ("a\u{3000}", "bad 1"),
 ];
 
 #[test]
@@ -263,7 +267,7 @@ fn names_are_read_by_character(rt: HostRuntime) -> Result<(), Fail> {
     all_are_read(&rt, rt.alloc(), &NAMES_ARE_READ_BY_CHARACTER)
 }
 
-static NUMBERS_LIE_IN_THE_PROFILE: [(&str, &str); 28] = [
+static NUMBERS_LIE_IN_THE_PROFILE: [(&str, &str); 33] = [
     ("0", "0-1 number 0;"),
     ("7", "0-1 number 7;"),
     ("10", "0-2 number 10;"),
@@ -292,6 +296,11 @@ static NUMBERS_LIE_IN_THE_PROFILE: [(&str, &str); 28] = [
     ("0x1fffffffffffff", "0-16 number 9007199254740991;"),
     ("0x20000000000000", "outside 0"),
     ("99999999999999999999999999999999999999999999", "outside 0"),
+    ("0b1", "outside 0"),
+    ("0o7", "outside 0"),
+    ("0x1.8", "outside 0"),
+    ("1N", "outside 0"),
+    ("0.0", "outside 0"),
 ];
 
 #[test]
@@ -329,7 +338,7 @@ fn big_ints_lie_in_the_profile(rt: HostRuntime) -> Result<(), Fail> {
     all_are_read(&rt, rt.alloc(), &BIG_INTS_LIE_IN_THE_PROFILE)
 }
 
-static ESCAPES_STAND_FOR_CHARACTERS: [(&str, &str); 42] = [
+static ESCAPES_STAND_FOR_CHARACTERS: [(&str, &str); 48] = [
     ("\"\\n\\t\\r\\\\\\\"\\'\"", "0-14 text \n\t\r\\\"';"),
     ("'\\n\\t\\r\\\\\\\"\\''", "0-14 text \n\t\r\\\"';"),
     ("'\\0'", "0-4 text \0;"),
@@ -372,6 +381,12 @@ static ESCAPES_STAND_FOR_CHARACTERS: [(&str, &str); 42] = [
     ("'\\\n'", "bad 0"),
     ("'\\'", "bad 0"),
     ("'\\", "bad 0"),
+    ("'\\\r'", "bad 0"),
+    ("'\\00'", "bad 0"),
+    ("\"\\0\"", "0-4 text \0;"),
+    ("'\\u{ 41}'", "bad 0"),
+    ("'\\u{41 }'", "bad 0"),
+    ("'\\x41\\u0042\\u{43}\\n'", "0-20 text ABC\n;"),
 ];
 
 #[test]

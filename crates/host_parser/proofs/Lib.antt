@@ -5,3 +5,8 @@ pub mod Maps
 pub mod Globals
 pub mod Keys
 pub mod Parses
+pub mod Missed
+pub mod Backward
+pub mod There
+pub mod Printed
+pub mod Numbers

@@ -137,16 +137,16 @@ abbrev pub In : {A : Type 0} → A → List A → Type 0
 In x [] = ⊥
 In x (y ∷ ys) = (y ≡ x) ⊎ In x ys
 
-in_left : {A : Type 0} (x : A) (xs ys : List A) → In x xs → In x (xs ++ ys)
+pub in_left : {A : Type 0} (x : A) (xs ys : List A) → In x xs → In x (xs ++ ys)
 in_left x [] ys h = absurd h
 in_left x (z ∷ xs) ys (inl e) = inl e
 in_left x (z ∷ xs) ys (inr h) = inr (in_left x xs ys h)
 
-in_right : {A : Type 0} (x : A) (xs ys : List A) → In x ys → In x (xs ++ ys)
+pub in_right : {A : Type 0} (x : A) (xs ys : List A) → In x ys → In x (xs ++ ys)
 in_right x [] ys h = h
 in_right x (z ∷ xs) ys h = inr (in_right x xs ys h)
 
-in_either : {A : Type 0} (x : A) (xs ys : List A) → In x (xs ++ ys) → In x xs ⊎ In x ys
+pub in_either : {A : Type 0} (x : A) (xs ys : List A) → In x (xs ++ ys) → In x xs ⊎ In x ys
 in_either x [] ys h = inr h
 in_either x (z ∷ xs) ys (inl e) = inl (inl e)
 in_either x (z ∷ xs) ys (inr h) = later (in_either x xs ys h)

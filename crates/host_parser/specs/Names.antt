@@ -7,6 +7,8 @@ use Rattle.host_nodes.specs.declared.form.Declares.{Declares}
 use Rattle.host_nodes.specs.declared.form.Declares.TheVariants as declares
 use Rattle.host_nodes.specs.declared.form.Declared.{Declared}
 use Rattle.host_nodes.specs.Tables.{declared, items_declared, params_declared, script_declared}
+use Rattle.host_parser.specs.declared.predefined.Predefined.{Predefined}
+use Rattle.host_parser.specs.Predefined.{predefined_of}
 use Rattle.host_parser.specs.declared.binding.Binding.{Binding}
 use Rattle.host_parser.specs.declared.binding.Binding.TheVariants as bindings
 
@@ -24,12 +26,21 @@ abbrev pub found : List ℕ → List Entry → Option Binding
 found n [] = None
 found n (e ∷ es) = cond (bytes_eq e.name n) (Some e.binding) (found n es)
 
-abbrev pub binding_or_none : Option Binding → Binding
-binding_or_none None = bindings.Unknown
-binding_or_none (Some b) = b
+-- a name that no declaration binds
+abbrev pub predefined_or_unknown : Option Predefined → Binding
+predefined_or_unknown None = bindings.Unknown
+predefined_or_unknown (Some p) = bindings.Predefined p
+
+abbrev pub unbound : List ℕ → Binding
+unbound n = predefined_or_unknown (predefined_of n)
+
+-- a declared name comes before a predefined one
+abbrev pub binding_or_unbound : List ℕ → Option Binding → Binding
+binding_or_unbound n None = unbound n
+binding_or_unbound n (Some b) = b
 
 abbrev pub binding_of : List ℕ → Environment → Binding
-binding_of n e = binding_or_none (found n (e.locals ++ e.globals))
+binding_of n e = binding_or_unbound n (found n (e.locals ++ e.globals))
 
 abbrev pub is_constant : Declares → Bool
 is_constant declares.Constant = true

@@ -26,7 +26,7 @@ Gives p len (Err errors.NoMemory) = Unit {0}
 Gives (tree s) len (Ok t) = t ≡ tree_of s len
 Gives (unexpected p) len (Err (errors.Unexpected q)) = q ≡ p
 Gives (too_deep p) len (Err (errors.TooDeep q)) = q ≡ p
-Gives (early p n) len (Err (errors.Early q m)) = q ≡ p
+Gives (early p n) len (Err (errors.Early q m)) = (q ≡ p) × (m ≡ n)
 Gives _ len _ = ⊥
 
 -- the tokens of a script with no construct too deep, and what is built of it

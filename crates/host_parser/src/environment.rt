@@ -7,7 +7,7 @@ ghost use Rattle.host_parser.specs.Resolving.{left};
 ghost use Rattle.host_parser.specs.declared.binding.Binding.{Binding};
 ghost use Rattle.std.specs.Prelude.{List};
 
-use crate::binding::{Binding, Slot};
+use crate::binding::{Binding, Slot, unbound};
 use host_nodes::{Declared, Declares};
 use std::alloc::{AllocError, Global};
 use std::collections::BTreeMap;
@@ -125,7 +125,7 @@ impl<'a> Scoped<'a> {
     {
         match self.bound.get(name) {
             Some(binding) => *binding,
-            None => Binding::Unknown,
+            None => unbound(name),
         }
     }
 }

@@ -88,5 +88,6 @@ pub fn parse(alloc: Global, tokens: &[Token], len: u32) -> Result<Script, ParseE
     ensures only { (p : Parsed) → IsParsed tokens.now len p → Gives p len result }
 {
     laws::readings_are_one();
+    laws::scripts_are_accepted();
     read(alloc, tokens, len)
 }

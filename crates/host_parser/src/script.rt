@@ -3,6 +3,7 @@
 ghost use Rattle.std.specs.Prelude.{◌≡◌};
 ghost use Rattle.host_parser.specs.Trees.{IsTree};
 ghost use Rattle.host_parser.specs.Parsing.{built_tree};
+ghost use Rattle.host_parser.specs.Laws.{BindingsAreThere, NodesAreThere, NumbersFit};
 
 use crate::binding::Binding;
 use embed_base::PlainList;
@@ -86,5 +87,15 @@ impl Script {
         ensures { result ≡ self.now.len }
     {
         self.len
+    }
+
+    /// Each node that the tree names is there and stands after its parts, each name has its binding, and each number is one of the profile.
+    /// A law for callers: it does nothing.
+    pub fn nodes_are_there(&self)
+        ensures nodes { NodesAreThere self.now }
+        ensures bindings { BindingsAreThere self.now }
+        ensures numbers { NumbersFit self.now }
+    {
+        let _ = &self.nodes;
     }
 }

@@ -1,13 +1,14 @@
 use host_lexer::tokens;
-use host_parser::{Binding, ParseError, Script, parse};
+use host_parser::{Binding, ParseError, Predefined, Script, parse};
 use std::alloc::Global;
 use std::process::Abort;
 use std::test::Fail;
 
-// A binding: `g` and a global's number, `l` and a local's, `c` and `k` where it is a constant, or `u`.
+// A binding: `g` and a global's number, `l` and a local's, `c` and `k` where it is a constant, a predefined name, or `u`.
 fn shown(alloc: Global, binding: Binding) -> Result<String, Fail> {
     let text = match binding {
         Binding::Unknown => format!(in alloc; " u")?,
+        Binding::Predefined(name) => format!(in alloc; " {name:?}")?,
         Binding::Global(slot) => {
             let kind = if slot.constant { "c" } else { "g" };
             format!(in alloc; " {kind}{}", slot.number)?
@@ -87,7 +88,34 @@ fn names_are_bound_by_the_innermost_scope(rt: HostRuntime) -> Result<(), Fail> {
     all_are_told(&rt, rt.alloc(), &NAMES_ARE_BOUND_BY_THE_INNERMOST_SCOPE)
 }
 
-static A_NAME_IS_DECLARED_ONCE_IN_A_SCOPE: [(&str, &str); 14] = [
+static PREDEFINED_NAMES_STAND_BELOW_DECLARED_ONES: [(&str, &str); 13] = [
+    (
+        "print;readbuffer;utf8Text;Object;BigInt;Number;String;Promise;",
+        "0 8 0 Print Readbuffer Utf8Text Object BigInt Number String Promise",
+    ),
+    (
+        "Uint8Array;Error;TypeError;RangeError;ReferenceError;SyntaxError;WebAssembly;",
+        "0 7 0 Uint8Array Error TypeError RangeError ReferenceError SyntaxError WebAssembly",
+    ),
+    ("Print;prints;object;Array;", "0 4 0 u u u u"),
+    ("print(a);", "0 1 0 Print u"),
+    ("print=1;", "0 1 0 Print"),
+    ("let print;print;", "0 2 1 g0 g0"),
+    ("let a=print;const print=a;", "0 2 2 g0 c1 c1 g0"),
+    ("function print(){}print(Error);", "1 1 1 g0 Error"),
+    ("function f(Object){Object;Error;}", "1 0 1 l0 Error"),
+    ("{let Promise;Promise;}Promise;", "0 2 0 l0 l0 Promise"),
+    ("try{}catch(Error){Error;}Error;", "0 2 0 l0 Error"),
+    ("new WebAssembly.Module(a);", "0 1 0 WebAssembly u"),
+    ("({String,a:Number,BigInt:b});", "0 1 0 String Number u"),
+];
+
+#[test]
+fn predefined_names_stand_below_declared_ones(rt: HostRuntime) -> Result<(), Fail> {
+    all_are_told(&rt, rt.alloc(), &PREDEFINED_NAMES_STAND_BELOW_DECLARED_ONES)
+}
+
+static A_NAME_IS_DECLARED_ONCE_IN_A_SCOPE: [(&str, &str); 33] = [
     ("let a;let a;", "a again 10"),
     ("let a,a;", "a again 6"),
     ("let a;const b=1;let b;", "b again 20"),
@@ -102,9 +130,47 @@ static A_NAME_IS_DECLARED_ONCE_IN_A_SCOPE: [(&str, &str); 14] = [
     ("let a;let a;(", "unexpected 13"),
     ("let a=1", "unexpected 7"),
     ("(a)=1;", "unexpected 3"),
+    ("const a=1;const a=1;", "a again 16"),
+    ("const a=1,b=2,a=3;", "a again 14"),
+    ("function f(){}let f;", "f again 18"),
+    ("let f;{}function f(){}", "f again 17"),
+    ("function f(f){}", "1 0 1"),
+    ("function f(){let f;}", "1 0 1 l0"),
+    ("function f(){let a;let a;}", "a again 23"),
+    ("function f(a,b){const b=1;}", "b again 22"),
+    ("function f(a){try{}catch(a){}}", "1 0 1"),
+    ("function f(a){}function g(a){}", "2 0 2"),
+    ("if(a){let b;let b;}", "b again 16"),
+    ("if(a);else{let b;let b;}", "b again 21"),
+    ("while(a){let b,b;}", "b again 15"),
+    ("try{let b;let b;}catch{}", "b again 14"),
+    ("try{let e;}catch(e){}", "0 1 0 l0"),
+    ("try{}catch{let e;const e=1;}", "e again 23"),
+    ("try{}catch(e){{let e;}}", "0 1 0 l1"),
+    ("let é;let e\u{301};let é;", "é again 19"),
+    ("{{let a;let a;}let b;let b;}let c;let c;", "a again 12"),
 ];
 
 #[test]
 fn a_name_is_declared_once_in_a_scope(rt: HostRuntime) -> Result<(), Fail> {
     all_are_told(&rt, rt.alloc(), &A_NAME_IS_DECLARED_ONCE_IN_A_SCOPE)
+}
+
+static THE_257TH_OPEN_CONSTRUCT_IS_TOO_DEEP: [(u32, &str); 3] = [
+    (1, "unexpected 1"),
+    (256, "unexpected 256"),
+    (257, "too deep 256"),
+];
+
+#[test]
+fn the_257th_open_construct_is_too_deep(rt: HostRuntime) -> Result<(), Fail> {
+    for (count, wanted) in &THE_257TH_OPEN_CONSTRUCT_IS_TOO_DEEP {
+        let mut text = String::new(rt.alloc());
+        for _ in 0..*count {
+            text.push_str("(")?;
+        }
+        let found = told(&rt, rt.alloc(), text.as_str())?;
+        assert_eq!(rt; found.as_str(), *wanted);
+    }
+    Ok(())
 }

@@ -77,7 +77,7 @@ fn all_are_told(rt: &impl Abort, alloc: Global, cases: &[(&str, &str)]) -> Resul
     Ok(())
 }
 
-static OPERATORS_STAND_AFTER_THEIR_OPERANDS: [(&str, &str); 13] = [
+static OPERATORS_STAND_AFTER_THEIR_OPERANDS: [(&str, &str); 21] = [
     (
         "a+b*c;",
         " name@0 name@2 name@4 chain@3 chain@1 expression@0",
@@ -106,6 +106,35 @@ static OPERATORS_STAND_AFTER_THEIR_OPERANDS: [(&str, &str); 13] = [
         " undefined@7 prefix@0 null@19 chain@16 boolean@25 chain@23 expression@0",
     ),
     ("1n;'x';", " bigint@0 expression@0 text@3 expression@3"),
+    (
+        "a<b===c>=d;",
+        " name@0 name@2 chain@1 name@6 name@9 chain@7 chain@3 expression@0",
+    ),
+    (
+        "(a||b)&&c;",
+        " name@1 name@4 chain@2 name@8 chain@6 expression@0",
+    ),
+    (
+        "a-(b-c);",
+        " name@0 name@3 name@5 chain@4 chain@1 expression@0",
+    ),
+    (
+        "- -a*b;",
+        " name@3 prefix@2 prefix@0 name@5 chain@4 expression@0",
+    ),
+    (
+        "!a.b(c)[d];",
+        " name@1 member@2 name@5 call@4 name@8 index@7 prefix@0 expression@0",
+    ),
+    (
+        "new A(new B());",
+        " name@4 name@10 new@11 new@5 expression@0",
+    ),
+    ("a['b']=c;", " name@0 text@2 index@1 name@7 assign@0"),
+    (
+        "f(a).b=[c,d];",
+        " name@0 name@2 call@1 member@4 name@8 name@10 array@7 assign@0",
+    ),
 ];
 
 #[test]
@@ -113,7 +142,7 @@ fn operators_stand_after_their_operands(rt: HostRuntime) -> Result<(), Fail> {
     all_are_told(&rt, rt.alloc(), &OPERATORS_STAND_AFTER_THEIR_OPERANDS)
 }
 
-static STATEMENTS_STAND_AFTER_THEIR_PARTS: [(&str, &str); 9] = [
+static STATEMENTS_STAND_AFTER_THEIR_PARTS: [(&str, &str); 15] = [
     (";", " empty@0"),
     ("let a=1,b;", " name@4 number@6 name@8 let@0"),
     ("const a=[];", " name@6 array@8 const@0"),
@@ -135,6 +164,21 @@ static STATEMENTS_STAND_AFTER_THEIR_PARTS: [(&str, &str); 9] = [
         "while(1){break;continue;}",
         " number@6 break@9 continue@15 block@8 while@0",
     ),
+    (
+        "if(a)if(b);else;",
+        " name@3 name@8 empty@10 empty@15 else@5 if@0",
+    ),
+    (
+        "if(a)b;else if(c)d;else e;",
+        " name@3 name@5 expression@5 name@15 name@17 expression@17 name@24 expression@24 else@12 else@0",
+    ),
+    ("function f(){return\n;}", " return@13 block@12"),
+    (
+        "const a=1,b=2;",
+        " name@6 number@8 name@10 number@12 const@0",
+    ),
+    ("{let a;{;}}", " name@5 let@1 empty@8 block@7 block@0"),
+    ("throw {};", " object@6 throw@0"),
 ];
 
 #[test]
