@@ -68,11 +68,6 @@ starts_number c cs h =
     ap (λ b. cond b (Some (name (run_of is_name_part (c ∷ cs)))) (cond (is_digit c) (Some (number (run_of is_number_part (c ∷ cs)))) (other_front c cs))) (digit_no_start c h)
     ∙ ap (λ b. cond b (Some (number (run_of is_number_part (c ∷ cs)))) (other_front c cs)) h
 
-pub starts_other : (c : ℕ) (cs : List ℕ) → is_name_start c ≡ false → is_digit c ≡ false → front (c ∷ cs) ≡ other_front c cs
-starts_other c cs h g =
-    ap (λ b. cond b (Some (name (run_of is_name_part (c ∷ cs)))) (cond (is_digit c) (Some (number (run_of is_number_part (c ∷ cs)))) (other_front c cs))) h
-    ∙ ap (λ b. cond b (Some (number (run_of is_number_part (c ∷ cs)))) (other_front c cs)) g
-
 front_name : (w rest : List ℕ) → IsIdentifier w → StopsAt is_name_part rest → front (w ++ rest) ≡ Some (name w)
 front_name [] rest h s = absurd h
 front_name (c ∷ cs) rest h s = starts_name c (cs ++ rest) h.0

@@ -7,3 +7,4 @@ pub mod Order
 pub mod Reached
 pub mod Runs
 pub mod Spelled
+pub mod Splitting

@@ -1,8 +1,8 @@
 -- Decimal digits and the number that they stand for.
 use Rattle.std.specs.Prelude.{◌≡◌, ℕ, ◌+◌, ◌-◌, ◌*◌, ◌<◌, ◌≤◌, true, false, ◌==◌, List, [], ◌∷◌, length, fold, All, take, drop}
 use Rattle.std.proofs.Common.{sym, ◌∙◌, ap, subst, arith, get_or}
-use Rattle.std.proofs.lemmas.List.{take-append-drop, take_more, take_all}
-use Rattle.std.proofs.lemmas.List.Elements.{All-head, All-tail, All-get_or}
+use Rattle.std.proofs.lemmas.List.{take-append-drop, take_more}
+use Rattle.std.proofs.lemmas.List.Elements.{All-head, All-tail}
 use Rattle.std.proofs.lemmas.Grind.{fold-append}
 use Rattle.std.proofs.lemmas.Bool.Decides.{nat_tests}
 use Rattle.small_lexer.specs.Tokens.{is_digit, value_of, IsDecimal}
@@ -18,25 +18,6 @@ value_of_front ds i = subst (λ n. value_of (take i ds) ≤ n) (sym (fold-append
 
 pub value_of_more : (ds : List ℕ) (i : ℕ) → i < length ds → value_of (take (i + 1) ds) ≡ 10 * value_of (take i ds) + (get_or ds i 0 - 48)
 value_of_more ds i h = ap value_of (take_more ds i 0 h) ∙ fold-append (λ n d. 10 * n + (d - 48)) 0 (take i ds) (get_or ds i 0 ∷ [])
-
-pub value_of_all : (ds : List ℕ) (i : ℕ) → length ds ≤ i → value_of (take i ds) ≡ value_of ds
-value_of_all ds i h = ap value_of (take_all i ds h)
-
-digit_bounds : (c : ℕ) → is_digit c ≡ true → (48 ≤ c) × (c ≤ 57)
-digit_bounds c h = (grind (arith, nat_tests), grind (arith, nat_tests))
-
-pub digit_at : (ds : List ℕ) (i : ℕ) → i < length ds → All (λ c. is_digit c ≡ true) ds → (48 ≤ get_or ds i 0) × (get_or ds i 0 ≤ 57)
-digit_at ds i lt h = digit_bounds (get_or ds i 0) (All-get_or (λ c. is_digit c ≡ true) ds i 0 lt h)
-
-pub no_digits : (ds : List ℕ) → length ds ≡ 0 → IsDecimal ds → ⊥
-no_digits [] e h = h
-no_digits (d ∷ ds) e h = omega arith
-
--- no number begins with `0` and goes on
-pub no_zero_first : (ds : List ℕ) → 1 < length ds → get_or ds 0 0 ≡ 48 → IsDecimal ds → ⊥
-no_zero_first [] lt e h = h
-no_zero_first (d ∷ []) lt e h = omega arith
-no_zero_first (d ∷ c ∷ ds) lt e h = h.1 e
 
 pub decimal : (ds : List ℕ) → 0 < length ds → (1 < length ds → get_or ds 0 0 ≡ 48 → ⊥) → All (λ c. is_digit c ≡ true) ds → IsDecimal ds
 decimal [] lt z h = absurd (omega arith)

@@ -84,7 +84,7 @@ step_token bytes at after read kind to lt h r = step bytes at after read h.eleme
 pub found_all : (bytes : List ℕ) (at : ℕ) (after : Bool) (read : List Token) → length bytes ≤ at → Reached bytes at after read → HasTokens bytes read
 found_all bytes at after read le r = subst (HasTokens bytes) (append-nil read) (r.found [] (record { spell = sym (drop_all at bytes le); are_elements = tt }))
 
-nothing_left : (es : List Element) → spelled es ≡ [] → AreElements es → es ≡ []
+pub nothing_left : (es : List Element) → spelled es ≡ [] → AreElements es → es ≡ []
 nothing_left [] s a = refl
 nothing_left (space ∷ es) s a = cc
 nothing_left (line_feed ∷ es) s a = cc

@@ -1,4 +1,4 @@
-ghost use Rattle.std.specs.Prelude.{◌≡◌, ℕ, List, true, false, ◌<◌, ◌^◌, [], ◌∷◌, ◌++◌, OnOk, IfOk, IfErr, MatchOption, length, slice_index, slice_range, All};
+ghost use Rattle.std.specs.Prelude.{◌≡◌, ◌⊎◌, ℕ, List, true, false, ◌<◌, ◌^◌, [], ◌∷◌, ◌++◌, OnOk, IfOk, IfErr, MatchOption, length, slice_index, slice_range, All};
 ghost use Rattle.small_lexer.specs.declared.token.Token.{Token};
 ghost use Rattle.small_lexer.specs.Tokens.{HasTokens, InOrder, Spells, Gives, byte_of, is_name_start, is_digit};
 ghost use Rattle.small_lexer.specs.Steps.{Reads, NoElement, OnNotYet};
@@ -62,6 +62,12 @@ pub fn tokens(alloc: Global, text: &str) -> Result<Vec<Token>, LexError>
     }
     Ok(found)
 }
+
+/// Whether bytes split into tokens is decided, and they split in one way alone, whatever the bytes are.
+pub fn splits_once()
+    ensures decided { (bytes : List ℕ) → ((ts : List Token) × HasTokens bytes ts) ⊎ ((ts : List Token) → ¬ HasTokens bytes ts) }
+    ensures once { (bytes : List ℕ) (ts us : List Token) → HasTokens bytes ts → HasTokens bytes us → ts ≡ us }
+{}
 
 // Adds a token at the end.
 fn add(tokens: &mut Vec<Token>, token: Token) -> Result<(), AllocError>

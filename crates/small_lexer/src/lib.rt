@@ -7,5 +7,5 @@ mod number;
 mod token;
 mod words;
 
-pub use lexer::tokens;
+pub use lexer::{splits_once, tokens};
 pub use token::{LexError, Mark, Token, TokenKind, Word};

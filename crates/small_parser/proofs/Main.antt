@@ -33,11 +33,11 @@ signs_on [] us = refl
 signs_on (t ∷ ts) us = ap (λ z. sign_of t ∷ z) (signs_on ts us)
 
 -- each script is read
-script_read : (ts : List Token) (d : Script) → IsScript ts d → run start (map sign_of ts) ≡ Some (items d)
+pub script_read : (ts : List Token) (d : Script) → IsScript ts d → run start (map sign_of ts) ≡ Some (items d)
 script_read ts d h = subst (λ z. run start z ≡ Some (items d)) h.spelled (run_script d [] h.fine)
 
 -- what leads to where a statement is wanted is a script
-read_script : (ts : List Token) (d : Script) → run start (map sign_of ts) ≡ Some (items d) → KeepsNames d → IsScript ts d
+pub read_script : (ts : List Token) (d : Script) → run start (map sign_of ts) ≡ Some (items d) → KeepsNames d → IsScript ts d
 read_script ts d h keeps = record {
   spelled = run_spells (map sign_of ts) start (items d) [] h ∙ append-nil (map sign_of ts);
   fine = run_fine (map sign_of ts) start (items d) tt h;

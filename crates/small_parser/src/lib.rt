@@ -7,5 +7,5 @@ mod parser;
 mod reader;
 mod script;
 
-pub use parser::parse;
+pub use parser::{parse, parses_once};
 pub use script::{Form, Node, NodeId, Operand, Operator, ParseError, Script};

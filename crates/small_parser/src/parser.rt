@@ -1,5 +1,5 @@
 //! From the tokens of a script to its tree.
-ghost use Rattle.std.specs.Prelude.{◌≡◌, IfOk};
+ghost use Rattle.std.specs.Prelude.{◌≡◌, ◌⊎◌, List, IfOk};
 ghost use Rattle.small_parser.specs.Grammar as grammar;
 ghost use Rattle.small_parser.specs.Grammar.{IsScript};
 ghost use Rattle.small_parser.specs.Shows.{ScriptShows};
@@ -43,3 +43,9 @@ pub fn parse(alloc: Global, tokens: &[Token], len: u32) -> Result<Script, ParseE
         _ => Err(ParseError::NotYet),
     }
 }
+
+/// Whether tokens are those of a script is decided, and they are those of one script alone, whatever the tokens are.
+pub fn parses_once()
+    ensures decided { (ts : List Token) → ((d : grammar.Script) × IsScript ts d) ⊎ ((d : grammar.Script) → ¬ IsScript ts d) }
+    ensures once { (ts : List Token) (d e : grammar.Script) → IsScript ts d → IsScript ts e → d ≡ e }
+{}
