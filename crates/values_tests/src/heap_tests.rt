@@ -750,7 +750,7 @@ fn an_array_up_to_its_limit(rt: HostRuntime) -> Result<(), Fail> {
 }
 
 /// Whether a binding is unset, and then has what is bound to it.
-fn binds(heap: &mut Heap, n: u32) -> bool {
+fn binds(heap: &mut Heap, n: u64) -> bool {
     if n as usize >= heap.bindings() {
         return false;
     }
