@@ -1,0 +1,5 @@
+mod Terms
+mod Told
+mod Lists
+mod Others
+mod Worked

@@ -1,0 +1,9 @@
+pub mod Terms
+pub mod Nodes
+pub mod Names
+pub mod Operators
+pub mod Members
+pub mod Calls
+pub mod Rewriting
+pub mod Frames
+pub mod Moves
