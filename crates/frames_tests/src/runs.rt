@@ -80,7 +80,7 @@ fn step(
 }
 
 /// A value as it shows.
-fn shown(alloc: Global, heap: &Heap, value: &HostValue) -> Result<String, AllocError> {
+pub(crate) fn shown(alloc: Global, heap: &Heap, value: &HostValue) -> Result<String, AllocError> {
     if heap.has_value(value) {
         return heap.show(alloc, value);
     }
@@ -241,7 +241,7 @@ fn run(alloc: Global, heap: &mut Heap, script: &Script) -> Result<String, AllocE
 }
 
 /// A number of the small scripts here.
-fn small(number: u64) -> u32 {
+pub(crate) fn small(number: u64) -> u32 {
     if number < 1000 { number as u32 } else { 1000 }
 }
 
