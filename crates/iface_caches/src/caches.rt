@@ -1,5 +1,6 @@
 //! The caches and their calls.
-ghost use Rattle.std.specs.Prelude.{◌≡◌, ◌++◌, ◌∷◌, [], ◌<◌, ◌↔◌, IsTrue, length, nat_eq, None, slice_get, Some, IfOk, OnOk, OnErr};
+ghost use Rattle.std.specs.Prelude.{◌≡◌, ◌++◌, ◌∷◌, [], ◌<◌, ◌↔◌, IsTrue, length, nat_eq, None, slice_index_or, IfOk, OnOk, OnErr};
+ghost use Rattle.host_values.specs.declared.values.HostValue.TheVariants as values;
 ghost use Rattle.std.specs.Map.{lookup};
 ghost use Rattle.host_values.specs.Objects.{HostHeap};
 ghost use Rattle.host_values.specs.Heaps.{next_object, with_object};
@@ -133,12 +134,11 @@ impl Caches {
         kind: ExternalKind,
         a: u64,
     ) -> Result<ObjId, AllocError>
-        requires agree { Agree heap.old self.old }
         ensures object { IfOk result (λ o. o ≡ object_of heap.old self.old kind a) }
         ensures ok { OnOk result (self.new ≡ with_object_of heap.old kind a self.old) }
         ensures heap { OnOk result (heap.new ≡ heap_with_object_of self.old kind a heap.old) }
         ensures err { OnErr result ((self.new ≡ self.old) × (heap.new ≡ heap.old)) }
-        ensures agree { Agree heap.new self.new }
+        ensures agree { Agree heap.old self.old → Agree heap.new self.new }
         ensures later { IsLater self.old self.new }
     {
         match self.cached(kind, a) {
@@ -154,12 +154,11 @@ impl Caches {
         heap: &mut Heap,
         a: FuncAddr,
     ) -> Result<ObjId, AllocError>
-        requires agree { Agree heap.old self.old }
         ensures object { IfOk result (λ o. o ≡ object_of heap.old self.old external.Function a.0) }
         ensures ok { OnOk result (self.new ≡ with_object_of heap.old external.Function a.0 self.old) }
         ensures heap { OnOk result (heap.new ≡ heap_with_object_of self.old external.Function a.0 heap.old) }
         ensures err { OnErr result ((self.new ≡ self.old) × (heap.new ≡ heap.old)) }
-        ensures agree { Agree heap.new self.new }
+        ensures agree { Agree heap.old self.old → Agree heap.new self.new }
         ensures later { IsLater self.old self.new }
     {
         self.object(alloc, heap, ExternalKind::Function, a.0)
@@ -172,12 +171,11 @@ impl Caches {
         heap: &mut Heap,
         a: MemAddr,
     ) -> Result<ObjId, AllocError>
-        requires agree { Agree heap.old self.old }
         ensures object { IfOk result (λ o. o ≡ object_of heap.old self.old external.Memory a.0) }
         ensures ok { OnOk result (self.new ≡ with_object_of heap.old external.Memory a.0 self.old) }
         ensures heap { OnOk result (heap.new ≡ heap_with_object_of self.old external.Memory a.0 heap.old) }
         ensures err { OnErr result ((self.new ≡ self.old) × (heap.new ≡ heap.old)) }
-        ensures agree { Agree heap.new self.new }
+        ensures agree { Agree heap.old self.old → Agree heap.new self.new }
         ensures later { IsLater self.old self.new }
     {
         self.object(alloc, heap, ExternalKind::Memory, a.0)
@@ -190,12 +188,11 @@ impl Caches {
         heap: &mut Heap,
         a: TableAddr,
     ) -> Result<ObjId, AllocError>
-        requires agree { Agree heap.old self.old }
         ensures object { IfOk result (λ o. o ≡ object_of heap.old self.old external.Table a.0) }
         ensures ok { OnOk result (self.new ≡ with_object_of heap.old external.Table a.0 self.old) }
         ensures heap { OnOk result (heap.new ≡ heap_with_object_of self.old external.Table a.0 heap.old) }
         ensures err { OnErr result ((self.new ≡ self.old) × (heap.new ≡ heap.old)) }
-        ensures agree { Agree heap.new self.new }
+        ensures agree { Agree heap.old self.old → Agree heap.new self.new }
         ensures later { IsLater self.old self.new }
     {
         self.object(alloc, heap, ExternalKind::Table, a.0)
@@ -208,12 +205,11 @@ impl Caches {
         heap: &mut Heap,
         a: GlobalAddr,
     ) -> Result<ObjId, AllocError>
-        requires agree { Agree heap.old self.old }
         ensures object { IfOk result (λ o. o ≡ object_of heap.old self.old external.Global a.0) }
         ensures ok { OnOk result (self.new ≡ with_object_of heap.old external.Global a.0 self.old) }
         ensures heap { OnOk result (heap.new ≡ heap_with_object_of self.old external.Global a.0 heap.old) }
         ensures err { OnErr result ((self.new ≡ self.old) × (heap.new ≡ heap.old)) }
-        ensures agree { Agree heap.new self.new }
+        ensures agree { Agree heap.old self.old → Agree heap.new self.new }
         ensures later { IsLater self.old self.new }
     {
         self.object(alloc, heap, ExternalKind::Global, a.0)
@@ -229,12 +225,11 @@ impl Caches {
         }
     }
 
-    // The value of the host of an address, lent.
-    pub(crate) fn extern_value(&self, a: ExternAddr) -> &HostValue
-        requires { a.0 < length self.now.externs }
-        ensures { slice_get self.now.externs a.0 ≡ Some result.now }
+    // The value of the host of an address, undefined where none has it.
+    pub(crate) fn extern_value(&self, a: ExternAddr) -> Result<HostValue, AllocError>
+        ensures { IfOk result (λ value. value ≡ slice_index_or self.now.externs a.0 values.Undefined) }
     {
-        self.externs.value(a)
+        self.externs.value_or_undefined(a)
     }
 
     /// The address of a value of the host. Strictly equal values (ECMA-262, section 7.2.14) have one address.

@@ -1,13 +1,12 @@
 //! Conversions between values of scripts and of modules.
-ghost use Rattle.std.specs.Prelude.{◌≡◌, ◌<◌, ◌^◌, IfOk, OnOk, OnErr};
+ghost use Rattle.std.specs.Prelude.{◌≡◌, ◌<◌, ◌^◌, IfOk, OnOk, OnErr, Some};
 ghost use Rattle.host_values.specs.Objects.{HostHeap};
-ghost use Rattle.host_values.specs.Heaps.{IsLiveValue};
 ghost use Rattle.host_convert.specs.Conversions as rows;
 ghost use Rattle.host_convert.specs.declared.conv.Conv.TheVariants as conv;
 ghost use Rattle.wasm_syntax.specs.declared.value.Value.TheVariants as w;
 ghost use Rattle.iface_caches.specs.Agreement.{Agree, IsLater};
 ghost use Rattle.iface_caches.specs.Conversions as spec;
-ghost use Rattle.iface_caches.specs.Conversions.{Answers, IsCached, as_value, caches_with, heap_with, to_externref, to_funcref, to_js, with_converted, with_reference};
+ghost use Rattle.iface_caches.specs.Conversions.{Answers, as_value, caches_with, function_reference, heap_with, to_externref, to_funcref, to_js, with_converted, with_reference};
 
 use crate::caches::Caches;
 use crate::conversion::Conversion;
@@ -60,37 +59,41 @@ fn to_i64(v: &HostValue) -> Result<Value, Conversion>
     }
 }
 
+/// The reference to the function that an object of this kind is of.
+fn function_of(kind: &Kind) -> Result<Value, Conversion>
+    ensures { Answers result (function_reference (Some kind.now)) }
+{
+    match kind {
+        Kind::Function(Callee::Exported(a)) => Ok(Value::Func(*a)),
+        _ => Err(Conversion::Throw(ErrorClass::TypeError)),
+    }
+}
+
 /// The reference to the function that a value is of.
 fn to_function(heap: &Heap, v: &HostValue) -> Result<Value, Conversion>
-    requires live { IsLiveValue heap.now v.now }
     ensures { Answers result (to_funcref heap.now v.now) }
 {
     match v {
         HostValue::Null => Ok(Value::FuncNull),
-        HostValue::Object(o) => match heap.kind(*o) {
-            Kind::Function(Callee::Exported(a)) => Ok(Value::Func(*a)),
-            _ => Err(Conversion::Throw(ErrorClass::TypeError)),
-        },
+        HostValue::Object(o) if heap.has_object(*o) => function_of(heap.kind(*o)),
         _ => Err(Conversion::Throw(ErrorClass::TypeError)),
     }
 }
 
 impl Caches {
     /// ToJSValue: the value of a script that a value of a module is. A function has its Exported Function, which is made where there
-    /// is none yet.
+    /// is none yet. An address that no value of the host has is undefined.
     pub fn to_host(
         &mut self,
         alloc: Global,
         heap: &mut Heap,
         v: Value,
     ) -> Result<HostValue, AllocError>
-        requires agree { Agree heap.old self.old }
-        requires cached { IsCached self.old v }
         ensures value { IfOk result (λ value. value ≡ to_js heap.old self.old v) }
         ensures ok { OnOk result (self.new ≡ caches_with heap.old v self.old) }
         ensures heap { OnOk result (heap.new ≡ heap_with self.old v heap.old) }
         ensures err { OnErr result ((self.new ≡ self.old) × (heap.new ≡ heap.old)) }
-        ensures agree { Agree heap.new self.new }
+        ensures agree { Agree heap.old self.old → Agree heap.new self.new }
         ensures later { IsLater self.old self.new }
     {
         match v {
@@ -101,7 +104,7 @@ impl Caches {
                 let object = self.function_object(alloc, heap, a)?;
                 Ok(HostValue::Object(object))
             }
-            Value::Extern(a) => self.extern_value(a).clone(),
+            Value::Extern(a) => self.extern_value(a),
         }
     }
 
@@ -122,7 +125,7 @@ impl Caches {
         }
     }
 
-    /// ToWebAssemblyValue: the value of a module, of this type, that a value of a script is. An object is one of the heap.
+    /// ToWebAssemblyValue: the value of a module, of this type, that a value of a script is. An object that isn't in the heap is no function.
     pub fn to_wasm(
         &mut self,
         alloc: Global,
@@ -130,12 +133,10 @@ impl Caches {
         v: &HostValue,
         ty: ValType,
     ) -> Result<Value, Conversion>
-        requires agree { Agree heap.now self.old }
-        requires live { IsLiveValue heap.now v.now }
         ensures answer { Answers result (spec.to_wasm heap.now self.old v.now ty) }
         ensures ok { OnOk result (self.new ≡ with_converted v.now ty self.old) }
         ensures err { OnErr result (self.new ≡ self.old) }
-        ensures agree { Agree heap.now self.new }
+        ensures agree { Agree heap.now self.old → Agree heap.now self.new }
         ensures later { IsLater self.old self.new }
     {
         match ty {

@@ -1,5 +1,6 @@
 //! Values of the host that modules hold, by their addresses.
-ghost use Rattle.std.specs.Prelude.{◌≡◌, [], ◌∷◌, ◌++◌, ◌<◌, ◌↔◌, IsTrue, length, None, Some, slice_get, IfOk, OnOk, OnErr};
+ghost use Rattle.std.specs.Prelude.{◌≡◌, [], ◌∷◌, ◌++◌, ◌<◌, ◌↔◌, IsTrue, length, None, Some, slice_get, slice_index_or, IfOk, OnOk, OnErr};
+ghost use Rattle.host_values.specs.declared.values.HostValue.TheVariants as values;
 ghost use Rattle.std.specs.Option.{option_map_or};
 ghost use Rattle.iface_caches.specs.Caches.{AreDistinct, place_of};
 
@@ -60,6 +61,17 @@ impl Externs {
         ensures { slice_get self.now a.0 ≡ Some result.now }
     {
         &self.values[a.0 as usize]
+    }
+
+    /// A copy of the value of an address, undefined where none has it.
+    pub fn value_or_undefined(&self, a: ExternAddr) -> Result<HostValue, AllocError>
+        ensures { IfOk result (λ value. value ≡ slice_index_or self.now a.0 values.Undefined) }
+    {
+        if self.has(a) {
+            self.value(a).clone()
+        } else {
+            Ok(HostValue::Undefined)
+        }
     }
 
     /// The address of a value, which goes to the end where no strictly equal one is there.
