@@ -1,0 +1,6 @@
+mod Files
+mod Names
+mod Exporting
+mod Stays
+mod Sounds
+mod Started
