@@ -1,0 +1,10 @@
+pub mod Folding
+pub mod Terms
+pub mod Nexts
+pub mod HostTurns
+pub mod Replies
+pub mod CoreTurns
+pub mod Leaving
+pub mod Sound
+pub mod Calling
+pub mod Once
